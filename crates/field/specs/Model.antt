@@ -21,3 +21,16 @@ as-code q a = cond (ltb a q) a 0
 -- the inverse of an operand: absent where it is 0 or counts as 0
 abbrev pub inverse : FieldModel → ℕ → Option ℕ
 inverse f a = cond (eqb (as-code (f .order) a) 0) None (Some (f .inv a))
+
+-- the first less the second
+abbrev pub minus : FieldModel → ℕ → ℕ → ℕ
+minus f a b = f .sum a (f .neg b)
+
+-- a times an inverse, where there is one
+abbrev pub times-inverse : FieldModel → ℕ → Option ℕ → Option ℕ
+times-inverse f a (Some v) = Some (f .prod a v)
+times-inverse f a None = None
+
+-- the first over the second: absent where that is 0 or counts as 0
+abbrev pub over : FieldModel → ℕ → ℕ → Option ℕ
+over f a b = times-inverse f a (inverse f b)
