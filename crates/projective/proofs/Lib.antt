@@ -1,0 +1,4 @@
+pub mod Triples
+pub mod Cross
+pub mod Opposites
+pub mod Laws
