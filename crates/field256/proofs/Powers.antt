@@ -123,7 +123,7 @@ inverse-read a p h =
     let x = raised (255 - i) 1 in
     let hx = raised-lt (255 - i) 1 (lit< tt) in
     let e : defined-prod 256 a x ≡ 1
-          = product-is a x h hx ∙ ap (λ y. mul y x) (sym (log-is a p h)) ∙ mul-powers i (255 - i) ∙ ap (λ k. raised k 1) (omega arith) ∙ full in
+    = product-is a x h hx ∙ ap (λ y. mul y x) (sym (log-is a p h)) ∙ mul-powers i (255 - i) ∙ ap (λ k. raised k 1) (omega arith) ∙ full in
     ap Some (antilog-is (255 - i) (omega arith) ∙ inverse-only (defined-field 256) lawful a x h hx e)
     ∙ sym (ap (λ (b : Bool). cond {A = Option ℕ} b None (Some (defined-inv 256 a))) (ap (λ n. eqb n 0) (code-is 256 a h) ∙ ne-eqb a 0 (λ z. omega arith)))
 

@@ -36,7 +36,7 @@ pub scaled-xor-bit : (a x y : ℕ) → x < 2 → y < 2 → scaled (bitXor x y) a
 unfolding scaled
 scaled-xor-bit a x y hx hy =
     by-bit (λ x. scaled (bitXor x y) a ≡ bitXor (scaled x a) (scaled y a)) refl
-      (by-bit (λ y. scaled (bitXor 1 y) a ≡ bitXor a (scaled y a)) (sym (xor-zero-r a)) (sym (xor-self a)) y hy) x hx
+    (by-bit (λ y. scaled (bitXor 1 y) a ≡ bitXor a (scaled y a)) (sym (xor-zero-r a)) (sym (xor-self a)) y hy) x hx
 
 pub scaled-xor : (b x y : ℕ) → scaled b (bitXor x y) ≡ bitXor (scaled b x) (scaled b y)
 unfolding scaled

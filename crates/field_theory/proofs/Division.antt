@@ -28,7 +28,7 @@ module _ (m modulus : ℕ) where
   remainder-xor (suc k) a b =
       let top = modulus * 2 ^ k in
       ap (λ x. remainder m modulus k (bitXor (bitXor a b) x))
-        (ap (λ x. scaled x top) (bit-xor (m + k) a b) ∙ scaled-xor-bit top (bit (m + k) a) (bit (m + k) b) (bit-lt (m + k) a) (bit-lt (m + k) b))
+      (ap (λ x. scaled x top) (bit-xor (m + k) a b) ∙ scaled-xor-bit top (bit (m + k) a) (bit (m + k) b) (bit-lt (m + k) a) (bit-lt (m + k) b))
       ∙ ap (remainder m modulus k) (xor-four a b (scaled (bit (m + k) a) top) (scaled (bit (m + k) b) top))
       ∙ remainder-xor k (bitXor a (scaled (bit (m + k) a) top)) (bitXor b (scaled (bit (m + k) b) top))
 
@@ -39,7 +39,7 @@ module _ (m modulus : ℕ) where
   remainder-double (suc k) a =
       let s = scaled (bit (m + k) a) (modulus * 2 ^ k) in
       ap (λ x. remainder m modulus (suc k) (bitXor (a * 2) x))
-        (ap₂ scaled (ap (λ i. bit i (a * 2)) (add-suc m k) ∙ bit-double (m + k) a) (shifted-twice modulus k) ∙ scaled-double (bit (m + k) a) (modulus * 2 ^ k))
+      (ap₂ scaled (ap (λ i. bit i (a * 2)) (add-suc m k) ∙ bit-double (m + k) a) (shifted-twice modulus k) ∙ scaled-double (bit (m + k) a) (modulus * 2 ^ k))
       ∙ ap (remainder m modulus (suc k)) (sym (double-xor a s))
       ∙ remainder-double k (bitXor a s)
 
@@ -61,4 +61,4 @@ module _ (m modulus : ℕ) where
       ap (remainder m modulus (suc k)) (product-step k a b)
       ∙ remainder-xor (suc k) (poly-product k a (b / 2) * 2) (scaled (b % 2) a)
       ∙ ap₂ bitXor (remainder-double k (poly-product k a (b / 2)) ∙ ap (times-x m modulus) (reduced-product k a (b / 2) h))
-          (remainder-small (suc k) (scaled (b % 2) a) (scaled-lt (b % 2) a (2 ^ m) h))
+      (remainder-small (suc k) (scaled (b % 2) a) (scaled-lt (b % 2) a (2 ^ m) h))

@@ -25,8 +25,8 @@ pub times-x-xor : (m modulus a b : ℕ) → times-x m modulus (bitXor a b) ≡ b
 unfolding times-x
 times-x-xor m modulus a b =
     ap₂ bitXor (double-xor a b)
-      (ap (λ x. scaled (bit m x) modulus) (double-xor a b) ∙ ap (λ x. scaled x modulus) (bit-xor m (a * 2) (b * 2))
-        ∙ scaled-xor-bit modulus (bit m (a * 2)) (bit m (b * 2)) (bit-lt m (a * 2)) (bit-lt m (b * 2)))
+    (ap (λ x. scaled (bit m x) modulus) (double-xor a b) ∙ ap (λ x. scaled x modulus) (bit-xor m (a * 2) (b * 2))
+    ∙ scaled-xor-bit modulus (bit m (a * 2)) (bit m (b * 2)) (bit-lt m (a * 2)) (bit-lt m (b * 2)))
     ∙ xor-four (a * 2) (b * 2) (scaled (bit m (a * 2)) modulus) (scaled (bit m (b * 2)) modulus)
 
 -- the modulus is x^m + p
@@ -76,8 +76,8 @@ module _ (m p : ℕ) (hp : p < 2 ^ m) where
   mul-xor-right zero a b c = refl
   mul-xor-right (suc k) a b c =
       ap₂ bitXor (ap (λ x. dbl (mul k a x)) (xor-shr b c 1) ∙ ap dbl (mul-xor-right k a (b / 2) (c / 2))
-          ∙ times-x-xor m (2 ^ m + p) (mul k a (b / 2)) (mul k a (c / 2)))
-        (ap (λ x. scaled x a) (xor-mod b c 1) ∙ scaled-xor-bit a (b % 2) (c % 2) (omega arith) (omega arith))
+      ∙ times-x-xor m (2 ^ m + p) (mul k a (b / 2)) (mul k a (c / 2)))
+      (ap (λ x. scaled x a) (xor-mod b c 1) ∙ scaled-xor-bit a (b % 2) (c % 2) (omega arith) (omega arith))
       ∙ xor-four (dbl (mul k a (b / 2))) (dbl (mul k a (c / 2))) (scaled (b % 2) a) (scaled (c % 2) a)
 
   scaled-dbl : (x a : ℕ) → scaled x (dbl a) ≡ dbl (scaled x a)

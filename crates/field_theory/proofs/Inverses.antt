@@ -26,6 +26,7 @@ solution-lt (suc n) test h = go (test n)
         next : (b : Bool) → solution n test < suc n → cond b n (solution n test) < suc (suc n)
         next true h = omega arith
         next false h = omega arith
+
     go : (b : Bool) → cond b n (solution n test) < suc n
     go true = omega arith
     go false = below n
@@ -56,7 +57,7 @@ module _ (q : ℕ) (pos : 0 < q) (table : List ℕ) (size : length table ≡ q) 
       let x = as-code q (getD table a 0) in
       let e = undone-is a (getD table a 0) nz (at (undone q) table test a (subst (λ n. a < n) (sym size) h)) in
       eqb-true (defined-prod q a (solution q (λ x. eqb (defined-prod q a x) 1))) 1
-        (solution-passes q (λ x. eqb (defined-prod q a x) 1) x (code-lt q (getD table a 0) pos) (eq-eqb (defined-prod q a x) 1 e))
+      (solution-passes q (λ x. eqb (defined-prod q a x) 1) x (code-lt q (getD table a 0) pos) (eq-eqb (defined-prod q a x) 1 e))
 
   pub inverse-lt : (a : ℕ) → defined-inv q a < q
   unfolding defined-inv

@@ -79,16 +79,16 @@ module _ (q : ℕ) (prime : among q prime-orders ≡ true) (one : 1 < q) (small 
     inv-code = inverse-lt q pos table size test;
     sum-comm = λ a b. ap (λ x. x % q) (add-comm (c a) (c b));
     sum-assoc = λ a b d. ap (λ x. (x + c d) % q) (c-mod (c a + c b)) ∙ mod-add-mod (c a + c b) q (c d) ∙ ap (λ x. x % q) (add-assoc (c a) (c b) (c d))
-      ∙ sym (ap (λ x. (c a + x) % q) (c-mod (c b + c d)) ∙ add-mod-mod (c a) (c b + c d) q);
+        ∙ sym (ap (λ x. (c a + x) % q) (c-mod (c b + c d)) ∙ add-mod-mod (c a) (c b + c d) q);
     sum-zero = λ a h. ap (λ x. x % q) (ap₂ _+_ (code-is q a h) (code-is q 0 pos) ∙ add-zero a) ∙ mod-eq-of-lt h;
     sum-neg = λ a. ap (λ x. (c a + x) % q) (c-mod (q - c a)) ∙ add-mod-mod (c a) (q - c a) q ∙ ap (λ x. x % q) (let h = c-lt a in omega arith) ∙ mod-self q;
     prod-comm = λ a b. ap (λ x. x % q) (mul-comm (c a) (c b));
     prod-assoc = λ a b d. ap (λ x. (x * c d) % q) (c-mod (c a * c b)) ∙ mod-mul-mod (c a * c b) (c d) q ∙ ap (λ x. x % q) (mul-assoc (c a) (c b) (c d))
-      ∙ sym (ap (λ x. (c a * x) % q) (c-mod (c b * c d)) ∙ mul-mod-mod (c a) (c b * c d) q);
+        ∙ sym (ap (λ x. (c a * x) % q) (c-mod (c b * c d)) ∙ mul-mod-mod (c a) (c b * c d) q);
     prod-one = λ a h. ap (λ x. x % q) (ap₂ _*_ (code-is q a h) (code-is q 1 one) ∙ mul-one a) ∙ mod-eq-of-lt h;
     prod-inv = λ a h nz. sym (prod-is q prime a (defined-inv q a)) ∙ inverse-is q pos table size test a h nz;
     prod-sum = λ a b d. ap (λ x. (c a * x) % q) (c-mod (c b + c d)) ∙ mul-mod-mod (c a) (c b + c d) q ∙ ap (λ x. x % q) (mul-add (c a) (c b) (c d))
-      ∙ add-mod (c a * c b) (c a * c d) q ∙ sym (ap₂ (λ x y. (x + y) % q) (c-mod (c a * c b)) (c-mod (c a * c d)));
+        ∙ add-mod (c a * c b) (c a * c d) q ∙ sym (ap₂ (λ x y. (x + y) % q) (c-mod (c a * c b)) (c-mod (c a * c d)));
     listed-sum = λ t a b. sym (sum-is q prime a b);
     listed-prod = λ t a b. sym (prod-is q prime a b);
   }

@@ -39,10 +39,10 @@ entry q a t p h =
     let l = prime-below q t in
     let x = getD inverses (q * 14 + a) 0 in
     let e : entry-fits ((q * 14 + a) / 14) ((q * 14 + a) % 14) x ≡ both (ltb x q) (eqb (a * x % q) 1)
-          = ap₂ (λ m n. entry-fits m n x) (div-mul-add q 14 a (omega arith)) (mod-mul-add q 14 a (omega arith))
-            ∙ ap (λ b. cond b (cond (ltb 0 a) (cond (ltb a q) (both (ltb x q) (eqb (a * x % q) 1)) true) true) true) (is-true (among q prime-orders) t)
-            ∙ ap (λ b. cond b (cond (ltb a q) (both (ltb x q) (eqb (a * x % q) 1)) true) true) (lt-ltb 0 a p)
-            ∙ ap (λ b. cond b (both (ltb x q) (eqb (a * x % q) 1)) true) (lt-ltb a q h) in
+    = ap₂ (λ m n. entry-fits m n x) (div-mul-add q 14 a (omega arith)) (mod-mul-add q 14 a (omega arith))
+    ∙ ap (λ b. cond b (cond (ltb 0 a) (cond (ltb a q) (both (ltb x q) (eqb (a * x % q) 1)) true) true) true) (is-true (among q prime-orders) t)
+    ∙ ap (λ b. cond b (cond (ltb a q) (both (ltb x q) (eqb (a * x % q) 1)) true) true) (lt-ltb 0 a p)
+    ∙ ap (λ b. cond b (both (ltb x q) (eqb (a * x % q) 1)) true) (lt-ltb a q h) in
     subst T e (tested (q * 14 + a) (omega arith))
 
 pub inverse-entry : (q a : ℕ) → T (among q prime-orders) → 0 < a → a < q → getD inverses (q * 14 + a) 0 ≡ defined-inv q a
@@ -52,4 +52,4 @@ inverse-entry q a t p h =
     let l = ltb→lt x q (both-left (ltb x q) (eqb (a * x % q) 1) both-hold) in
     let e = eqb→eq (a * x % q) 1 (both-right (ltb x q) (eqb (a * x % q) 1) both-hold) in
     inverse-only (defined-field q) (prime-lawful q t) a x h l
-      (prod-is q (is-true (among q prime-orders) t) a x ∙ ap₂ (λ m n. m * n % q) (code-is q a h) (code-is q x l) ∙ e)
+    (prod-is q (is-true (among q prime-orders) t) a x ∙ ap₂ (λ m n. m * n % q) (code-is q a h) (code-is q x l) ∙ e)

@@ -58,7 +58,11 @@ fn geometry_call(words: &mut Words, asked: Asked) -> Option<Call> {
     };
     let order = words.number()?;
     let question = question(words, asked)?;
-    Some(Call::Geometry { kind, order, question })
+    Some(Call::Geometry {
+        kind,
+        order,
+        question,
+    })
 }
 
 fn question(words: &mut Words, asked: Asked) -> Option<Question> {

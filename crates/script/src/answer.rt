@@ -12,7 +12,13 @@ use std::fmt;
 pub enum Answer {
     Number(usize),
     Pair(usize, usize),
-    Sizes { points: usize, lines: usize, point_degree: usize, line_degree: usize, edges: usize },
+    Sizes {
+        points: usize,
+        lines: usize,
+        point_degree: usize,
+        line_degree: usize,
+        edges: usize,
+    },
     Absent,
     Refused(Refusal),
     Unreadable,
@@ -23,9 +29,13 @@ pub impl fmt::Display for Answer as AnswerDisplay {
         match self {
             Answer::Number(n) => write!(f, "{n}"),
             Answer::Pair(a, b) => write!(f, "{a} {b}"),
-            Answer::Sizes { points, lines, point_degree, line_degree, edges } => {
-                write!(f, "{points} {lines} {point_degree} {line_degree} {edges}")
-            }
+            Answer::Sizes {
+                points,
+                lines,
+                point_degree,
+                line_degree,
+                edges,
+            } => { write!(f, "{points} {lines} {point_degree} {line_degree} {edges}") }
             Answer::Absent => write!(f, "absent"),
             Answer::Refused(refusal) => {
                 let number = refusal.number();
@@ -42,7 +52,13 @@ pub fn to(reading: Reading) -> Answer
 {
     match reading {
         Reading::Asks(Call::Field { order, operation }) => field_calls::answer(order, operation),
-        Reading::Asks(Call::Geometry { kind, order, question }) => geometry_calls::answer(kind, order, question),
+        Reading::Asks(
+            Call::Geometry {
+                kind,
+                order,
+                question,
+            },
+        ) => geometry_calls::answer(kind, order, question),
         Reading::Unreadable => Answer::Unreadable,
     }
 }

@@ -25,8 +25,15 @@ pub enum Question {
 
 #[derive(Clone, Copy)]
 pub enum Call {
-    Field { order: usize, operation: Operation },
-    Geometry { kind: Kind, order: usize, question: Question },
+    Field {
+        order: usize,
+        operation: Operation,
+    },
+    Geometry {
+        kind: Kind,
+        order: usize,
+        question: Question,
+    },
 }
 
 // A line read as a call, or a line that cannot be read.

@@ -12,8 +12,9 @@ index-i c = two-logs (c .args .a) (c .args .b) (search needs) (search needs) (se
 
 pub returns-then-a-eq0 : need.returns-then-a-eq0
 returns-then-a-eq0 c = elim (c .then-a-eq0 .either) [
-    inl e ↦ product-left-zero (c .args .b) ∙ ap (λ x. defined-prod 256 x (c .args .b)) (sym e)
-  | inr e ↦ product-right-zero (c .args .a) ∙ ap (defined-prod 256 (c .args .a)) (sym (e .1)) ]
+  | inl e ↦ product-left-zero (c .args .b) ∙ ap (λ x. defined-prod 256 x (c .args .b)) (sym e)
+  | inr e ↦ product-right-zero (c .args .a) ∙ ap (defined-prod 256 (c .args .a)) (sym (e .1))
+]
 
 pub returns : need.returns
 unfolding logs antilogs

@@ -20,5 +20,5 @@ returns-else-x-eq0 c =
     let x = c .read-code-x .result in
     let nz = c .if-x-eq0 .left in
     ap Some (inverse-entry q x (c .args .self .now .prime) (omega arith) (read-lt q (c .args .self .now .prime) a x (c .read-code-x .ensures))
-      ∙ ap (defined-inv q) (c .read-code-x .ensures) ∙ sym (prime-lawful q (c .args .self .now .prime) .inv-reads a))
+    ∙ ap (defined-inv q) (c .read-code-x .ensures) ∙ sym (prime-lawful q (c .args .self .now .prime) .inv-reads a))
     ∙ sym (ap (λ (b : mathlib.Core.Bool.Bool). cond {A = Option ℕ} b None (Some (defined-inv q a))) (ap (λ n. lib.Dec.eqb n 0) (sym (c .read-code-x .ensures)) ∙ ne-eqb x 0 nz))
