@@ -18,6 +18,67 @@ pub enum BinaryField {
     Of16,
 }
 
+impl BinaryField {
+    // The field of order 4, 8 or 16; any other order is refused.
+    pub fn new(order: usize) -> Result<BinaryField, Refusal>
+        ensures { λ r. ⌜ elim r [ Ok f ↦ order-of f ≡ order | Err e ↦ (e ≡ FieldOrder) × (T (among order small-orders) → ⊥) ] ⌝ }
+    {
+        match order {
+            4 => Ok(BinaryField::Of4),
+            8 => Ok(BinaryField::Of8),
+            16 => Ok(BinaryField::Of16),
+            _ => Err(Refusal::FieldOrder),
+        }
+    }
+}
+
+pub impl Field for BinaryField as BinaryArithmetic {
+    ghost model = { λ f. defined-field (order-of f) };
+
+    fn order(&self) -> usize {
+        match self {
+            BinaryField::Of4 => 4,
+            BinaryField::Of8 => 8,
+            BinaryField::Of16 => 16,
+        }
+    }
+
+    fn sum(&self, a: u8, b: u8) -> u8 {
+        let q = self.order();
+        read_code(q, a) ^ read_code(q, b)
+    }
+
+    // In a binary field each element is its own negative.
+    fn negative(&self, a: u8) -> u8 {
+        read_code(self.order(), a)
+    }
+
+    fn product(&self, a: u8, b: u8) -> u8 {
+        let q = self.order();
+        let x = read_code(q, a) as usize;
+        let y = read_code(q, b) as usize;
+        match self {
+            BinaryField::Of4 => PRODUCTS4[x * 4 + y],
+            BinaryField::Of8 => PRODUCTS8[x * 8 + y],
+            BinaryField::Of16 => PRODUCTS16[x * 16 + y],
+        }
+    }
+
+    fn inverse(&self, a: u8) -> Option<u8> {
+        let x = read_code(self.order(), a) as usize;
+        if x == 0 {
+            return None;
+        }
+        Some(
+            match self {
+                BinaryField::Of4 => INVERSES4[x],
+                BinaryField::Of8 => INVERSES8[x],
+                BinaryField::Of16 => INVERSES16[x],
+            },
+        )
+    }
+}
+
 // Entry a * q + b is the product of a and b in the field of order q.
 const PRODUCTS4: [u8; 16] = [0, 0, 0, 0, 0, 1, 2, 3, 0, 2, 3, 1, 0, 3, 1, 2];
 
@@ -353,64 +414,3 @@ const INVERSES4: [u8; 4] = [0, 1, 3, 2];
 const INVERSES8: [u8; 8] = [0, 1, 5, 6, 7, 2, 3, 4];
 
 const INVERSES16: [u8; 16] = [0, 1, 9, 14, 13, 11, 7, 6, 15, 2, 12, 5, 10, 4, 3, 8];
-
-impl BinaryField {
-    // The field of order 4, 8 or 16; any other order is refused.
-    pub fn new(order: usize) -> Result<BinaryField, Refusal>
-        ensures { λ r. ⌜ elim r [ Ok f ↦ order-of f ≡ order | Err e ↦ (e ≡ FieldOrder) × (T (among order small-orders) → ⊥) ] ⌝ }
-    {
-        match order {
-            4 => Ok(BinaryField::Of4),
-            8 => Ok(BinaryField::Of8),
-            16 => Ok(BinaryField::Of16),
-            _ => Err(Refusal::FieldOrder),
-        }
-    }
-}
-
-pub impl Field for BinaryField as BinaryArithmetic {
-    ghost model = { λ f. defined-field (order-of f) };
-
-    fn order(&self) -> usize {
-        match self {
-            BinaryField::Of4 => 4,
-            BinaryField::Of8 => 8,
-            BinaryField::Of16 => 16,
-        }
-    }
-
-    fn sum(&self, a: u8, b: u8) -> u8 {
-        let q = self.order();
-        read_code(q, a) ^ read_code(q, b)
-    }
-
-    // In a binary field each element is its own negative.
-    fn negative(&self, a: u8) -> u8 {
-        read_code(self.order(), a)
-    }
-
-    fn product(&self, a: u8, b: u8) -> u8 {
-        let q = self.order();
-        let x = read_code(q, a) as usize;
-        let y = read_code(q, b) as usize;
-        match self {
-            BinaryField::Of4 => PRODUCTS4[x * 4 + y],
-            BinaryField::Of8 => PRODUCTS8[x * 8 + y],
-            BinaryField::Of16 => PRODUCTS16[x * 16 + y],
-        }
-    }
-
-    fn inverse(&self, a: u8) -> Option<u8> {
-        let x = read_code(self.order(), a) as usize;
-        if x == 0 {
-            return None;
-        }
-        Some(
-            match self {
-                BinaryField::Of4 => INVERSES4[x],
-                BinaryField::Of8 => INVERSES8[x],
-                BinaryField::Of16 => INVERSES16[x],
-            },
-        )
-    }
-}

@@ -7,6 +7,39 @@ use field::Field;
 #[derive(Clone, Copy)]
 pub struct Field256;
 
+pub impl Field for Field256 as Field256Arithmetic {
+    ghost model = { λ _. defined-field 256 };
+
+    fn order(&self) -> usize {
+        256
+    }
+
+    fn sum(&self, a: u8, b: u8) -> u8 {
+        a ^ b
+    }
+
+    // In a binary field each element is its own negative.
+    fn negative(&self, a: u8) -> u8 {
+        a
+    }
+
+    fn product(&self, a: u8, b: u8) -> u8 {
+        if a == 0 || b == 0 {
+            return 0;
+        }
+        let i = LOGS[a as usize - 1] as usize;
+        let j = LOGS[b as usize - 1] as usize;
+        ANTILOGS[i + j]
+    }
+
+    fn inverse(&self, a: u8) -> Option<u8> {
+        if a == 0 {
+            return None;
+        }
+        Some(ANTILOGS[255 - LOGS[a as usize - 1] as usize])
+    }
+}
+
 // Entry i is 2 to the power i, so that a sum of two logarithms needs no reduction.
 const ANTILOGS: [u8; 510] = [
     1,
@@ -779,36 +812,3 @@ const LOGS: [u8; 255] = [
     88,
     175,
 ];
-
-pub impl Field for Field256 as Field256Arithmetic {
-    ghost model = { λ _. defined-field 256 };
-
-    fn order(&self) -> usize {
-        256
-    }
-
-    fn sum(&self, a: u8, b: u8) -> u8 {
-        a ^ b
-    }
-
-    // In a binary field each element is its own negative.
-    fn negative(&self, a: u8) -> u8 {
-        a
-    }
-
-    fn product(&self, a: u8, b: u8) -> u8 {
-        if a == 0 || b == 0 {
-            return 0;
-        }
-        let i = LOGS[a as usize - 1] as usize;
-        let j = LOGS[b as usize - 1] as usize;
-        ANTILOGS[i + j]
-    }
-
-    fn inverse(&self, a: u8) -> Option<u8> {
-        if a == 0 {
-            return None;
-        }
-        Some(ANTILOGS[255 - LOGS[a as usize - 1] as usize])
-    }
-}

@@ -12,6 +12,53 @@ mod kind;
 
 pub use kind::PrimeField;
 
+impl PrimeField {
+    // The field of a prime order that is listed; any other order is refused.
+    pub fn new(order: usize) -> Result<PrimeField, Refusal>
+        ensures { λ r. ⌜ elim r [ Ok f ↦ f .order ≡ order | Err e ↦ (e ≡ FieldOrder) × (T (among order prime-orders) → ⊥) ] ⌝ }
+    {
+        match order {
+            2 | 3 | 5 | 7 | 11 | 13 => Ok(PrimeField { order: order as u8 }),
+            _ => Err(Refusal::FieldOrder),
+        }
+    }
+}
+
+pub impl Field for PrimeField as PrimeArithmetic {
+    ghost model = { λ f. defined-field (f .order) };
+
+    fn order(&self) -> usize {
+        self.order as usize
+    }
+
+    fn sum(&self, a: u8, b: u8) -> u8 {
+        let q = self.order;
+        let s = read_code(q as usize, a) + read_code(q as usize, b);
+        if s < q { s } else { s - q }
+    }
+
+    fn negative(&self, a: u8) -> u8 {
+        let q = self.order;
+        let x = read_code(q as usize, a);
+        if x == 0 { 0 } else { q - x }
+    }
+
+    fn product(&self, a: u8, b: u8) -> u8 {
+        let q = self.order;
+        read_code(q as usize, a) * read_code(q as usize, b) % q
+    }
+
+    fn inverse(&self, a: u8) -> Option<u8> {
+        let q = self.order as usize;
+        let x = read_code(q, a);
+        if x == 0 {
+            None
+        } else {
+            Some(INVERSES[q * 14 + x as usize])
+        }
+    }
+}
+
 // The inverses of 0 to 13 modulo each prime order, in the row of that order; other rows, and what has no inverse, are 0.
 const INVERSES: [u8; 196] = [
     0,
@@ -211,50 +258,3 @@ const INVERSES: [u8; 196] = [
     12,
     0,
 ];
-
-impl PrimeField {
-    // The field of a prime order that is listed; any other order is refused.
-    pub fn new(order: usize) -> Result<PrimeField, Refusal>
-        ensures { λ r. ⌜ elim r [ Ok f ↦ f .order ≡ order | Err e ↦ (e ≡ FieldOrder) × (T (among order prime-orders) → ⊥) ] ⌝ }
-    {
-        match order {
-            2 | 3 | 5 | 7 | 11 | 13 => Ok(PrimeField { order: order as u8 }),
-            _ => Err(Refusal::FieldOrder),
-        }
-    }
-}
-
-pub impl Field for PrimeField as PrimeArithmetic {
-    ghost model = { λ f. defined-field (f .order) };
-
-    fn order(&self) -> usize {
-        self.order as usize
-    }
-
-    fn sum(&self, a: u8, b: u8) -> u8 {
-        let q = self.order;
-        let s = read_code(q as usize, a) + read_code(q as usize, b);
-        if s < q { s } else { s - q }
-    }
-
-    fn negative(&self, a: u8) -> u8 {
-        let q = self.order;
-        let x = read_code(q as usize, a);
-        if x == 0 { 0 } else { q - x }
-    }
-
-    fn product(&self, a: u8, b: u8) -> u8 {
-        let q = self.order;
-        read_code(q as usize, a) * read_code(q as usize, b) % q
-    }
-
-    fn inverse(&self, a: u8) -> Option<u8> {
-        let q = self.order as usize;
-        let x = read_code(q, a);
-        if x == 0 {
-            None
-        } else {
-            Some(INVERSES[q * 14 + x as usize])
-        }
-    }
-}

@@ -1,0 +1,1 @@
+// Sums, tests and lists over a range: definitions and their laws, with no code.

@@ -1,0 +1,7 @@
+mod Steps
+mod Shift
+mod Roots
+mod Shedding
+mod Adding
+mod Correcting
+mod Meaning

@@ -1,0 +1,3 @@
+pub mod Words
+pub mod Model
+pub mod Calls

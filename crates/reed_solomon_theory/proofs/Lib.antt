@@ -1,0 +1,11 @@
+pub mod Reciprocal
+pub mod Vander
+pub mod Seats
+pub mod Apart
+pub mod Poly
+pub mod Locate
+pub mod Solve
+pub mod Mend
+pub mod Rows
+pub mod Basis
+pub mod Promise

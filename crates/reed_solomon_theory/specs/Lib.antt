@@ -1,0 +1,4 @@
+pub mod Code
+pub mod Decode
+pub mod Elimination
+pub mod Promise
