@@ -4,4 +4,4 @@ mod Roots
 mod Shedding
 mod Adding
 mod Correcting
-mod Meaning
+pub mod Meaning

@@ -1,30 +1,32 @@
 // Runs a script of calls: reads it on standard input, and prints each call line and under it its answer line.
+mod answering;
 mod reading;
 mod words;
 
+use answering::answer;
+use reading::Request;
 use reading::read;
-use script::AnswerDisplay;
-use script::Reading;
+use std::alloc::AllocError;
+use std::alloc::Global;
 use std::io;
 
-// The call that a line asks for; absent for a comment, an empty line or an expected answer, which are passed over.
-fn asked(line: &str) -> Option<Reading> {
+// What a line asks for; absent for a comment, an empty line or an expected answer, which are passed over.
+fn asked(heap: Global, line: &str) -> Result<Option<Request>, AllocError> {
     if line.is_empty() || line.starts_with('#') || line.starts_with("< ") {
-        return None;
+        return Ok(None);
     }
     match line.strip_prefix("> ") {
-        Some(call) => Some(read(call)),
-        None => Some(Reading::Unreadable),
+        Some(call) => Ok(Some(read(heap, call)?)),
+        None => Ok(Some(Request::Unreadable)),
     }
 }
 
 fn main(rt: LibcRuntime) -> io::Result<()> {
     for line in rt.lines(rt.alloc()) {
         let text = line?;
-        if let Some(reading) = asked(text.as_str()) {
-            let answer = script::to(reading);
+        if let Some(request) = asked(rt.alloc(), text.as_str())? {
             println!(rt, "{text}")?;
-            println!(rt, "< {answer}")?;
+            answer(&rt, request)?;
         }
     }
     Ok(())

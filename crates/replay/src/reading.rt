@@ -1,22 +1,84 @@
 // How a line is read as a call.
 use crate::words::Words;
+use crate::words::bytes;
+use any_code::Component;
 use any_geometry::Kind;
 use script::Call;
 use script::Operation;
 use script::Question;
-use script::Reading;
+use std::alloc::AllocError;
+use std::alloc::Global;
+
+// What a line asks for.
+#[derive(Drop)]
+pub enum Request {
+    Plain(Call),
+    Decode { component: Component, word: Vec<u8> },
+    Checks(Component),
+    Unreadable,
+}
 
 // Reads a call line, without the mark at its beginning.
-pub fn read(line: &str) -> Reading {
+pub fn read(heap: Global, line: &str) -> Result<Request, AllocError> {
     let mut words = Words::of(line);
-    match call(&mut words) {
-        Some(call) if words.at_end() => Reading::Asks(call),
-        _ => Reading::Unreadable,
+    match words.word() {
+        Some("decode") => decode_call(heap, &mut words),
+        Some("checks") => Ok(checks_call(&mut words)),
+        Some(name) => Ok(plain_call(name, &mut words)),
+        None => Ok(Request::Unreadable),
     }
 }
 
-fn call(words: &mut Words) -> Option<Call> {
+fn decode_call(heap: Global, words: &mut Words) -> Result<Request, AllocError> {
+    let Some(component) = component_named(words) else {
+        return Ok(Request::Unreadable);
+    };
+    let Some(text) = words.word() else {
+        return Ok(Request::Unreadable);
+    };
+    match bytes(heap, text)? {
+        Some(word) if words.at_end() => Ok(Request::Decode { component, word }),
+        _ => Ok(Request::Unreadable),
+    }
+}
+
+fn checks_call(words: &mut Words) -> Request {
+    match component_named(words) {
+        Some(component) if words.at_end() => Request::Checks(component),
+        _ => Request::Unreadable,
+    }
+}
+
+fn component_named(words: &mut Words) -> Option<Component> {
     match words.word()? {
+        "rs" => {
+            let order = words.number()?;
+            let size = words.number()?;
+            let checks = words.number()?;
+            Some(Component::ReedSolomon {
+                order,
+                size,
+                checks,
+            })
+        }
+        "bch" => {
+            let size = words.number()?;
+            let radius = words.number()?;
+            Some(Component::Bch { size, radius })
+        }
+        _ => None,
+    }
+}
+
+fn plain_call(name: &str, words: &mut Words) -> Request {
+    match call(name, words) {
+        Some(call) if words.at_end() => Request::Plain(call),
+        _ => Request::Unreadable,
+    }
+}
+
+fn call(name: &str, words: &mut Words) -> Option<Call> {
+    match name {
         "field" => field_call(words),
         "size" => geometry_call(words, Asked::Size),
         "edge" => geometry_call(words, Asked::Edge),

@@ -39,10 +39,21 @@ pub impl fmt::Display for Answer as AnswerDisplay {
             Answer::Absent => write!(f, "absent"),
             Answer::Refused(refusal) => {
                 let number = refusal.number();
-                write!(f, "no {number}")
+                write!(f, "no {number}")?;
+                write_carried(f, refusal)
             }
             Answer::Unreadable => write!(f, "unreadable"),
         }
+    }
+}
+
+// What a refusal carries, after its number.
+fn write_carried<W: fmt::Write>(f: &mut fmt::Formatter<W>, refusal: &Refusal) -> fmt::Result {
+    match refusal {
+        Refusal::NoSuchBlock { block } => write!(f, " block {block}"),
+        Refusal::NoSuchCell { cell, layers } => write!(f, " cell {cell} layers {layers}"),
+        Refusal::NotACode { place } => write!(f, " place {place}"),
+        _ => Ok(()),
     }
 }
 

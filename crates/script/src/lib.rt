@@ -1,6 +1,7 @@
 // The calls that a script may make, and their answers, worked out by the library.
 mod answer;
 mod call;
+mod code_calls;
 mod field_calls;
 mod geometry_calls;
 
@@ -11,3 +12,4 @@ pub use call::Call;
 pub use call::Operation;
 pub use call::Question;
 pub use call::Reading;
+pub use code_calls::decode;

@@ -1,10 +1,15 @@
 use mathlib.Core.Path.{refl}
 use Rattle.field.specs.Polynomials.{bit, scaled, poly-product, remainder}
 use Rattle.field.specs.Defined.{degree, modulus, solution, defined-sum, defined-neg, defined-prod, defined-inv}
+use Rattle.field.specs.Sums.{field-sum}
+use Rattle.component.specs.Model.{check-sum, is-word}
+use Rattle.component.specs.Decoding.{decoded}
+use Rattle.reed_solomon_theory.specs.Code.{power}
+use Rattle.bch.specs.Bch.{cube, power-bit}
 use Rattle.figures.proofs.figures_stand.Needs as need
 
 pub returns : need.returns
-unfolding defined-sum defined-neg defined-prod defined-inv degree modulus solution poly-product remainder bit scaled
+unfolding decoded is-word check-sum field-sum power cube power-bit defined-sum defined-neg defined-prod defined-inv degree modulus solution poly-product remainder bit scaled
 returns c = record {
   fields = record { product-16 = refl; product-256 = refl; inverse-13 = refl };
   geometries = record {
@@ -23,4 +28,5 @@ returns c = record {
     euclidean-256-refused = refl;
     euclidean-9-refused = refl;
   };
+  codes = record { decoded-1340 = refl; refused-2400 = refl; sixteen-ones = refl };
 }
