@@ -1,4 +1,6 @@
 // A component code of any kind, chosen at run time: an enum over the kinds, which is a component code itself.
+#![tactic(auto)]
+
 ghost use Rattle.std.specs.Prelude.{◌≡◌, T, Ok, Err};
 ghost use Rattle.any_code.specs.Kinds.{code_meant, code_of, order_in};
 ghost use Rattle.field.specs.Defined.{listed};

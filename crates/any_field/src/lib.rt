@@ -1,4 +1,6 @@
 // A field of any listed order, chosen at run time: an enum over the kinds of fields, which is a field itself.
+#![tactic(auto)]
+
 ghost use Rattle.std.specs.Prelude.{◌≡◌, T, Ok, Err};
 ghost use Rattle.field.specs.Defined.{defined_field, listed};
 ghost use Rattle.any_field.specs.Orders.{order_of};

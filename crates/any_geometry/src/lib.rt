@@ -1,4 +1,6 @@
 // A geometry of any kind over a field of any listed order, chosen at run time: an enum over the kinds, which is a geometry itself.
+#![tactic(auto)]
+
 ghost use Rattle.std.specs.Prelude.{◌≡◌, Ok, Err};
 ghost use Rattle.field.specs.Defined.{defined_field};
 ghost use Rattle.geometry.specs.Limits.{standing as standing_of};

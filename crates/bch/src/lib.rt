@@ -1,4 +1,6 @@
 // Extended binary BCH codes: symbols in the field of 2, locators in the field of 16, 1 to 16 seats, radius 1 or 2.
+#![tactic(auto)]
+
 ghost use Rattle.std.specs.Prelude.{◌≡◌, ◌<◌, ◌≤◌, true, false, length, Some, None, Ok, Err, bit_xor};
 ghost use Rattle.bch.specs.Bch.{bch, power_bit, within_limits};
 ghost use Rattle.bch.specs.Columns.{NoPair, NoSeat, column, flipped, syndrome};

@@ -1,4 +1,6 @@
 // Binary fields of order 4, 8 and 16: polynomials over two elements, modulo x² + x + 1, x³ + x + 1 and x⁴ + x + 1.
+#![tactic(auto)]
+
 ghost use Rattle.std.specs.Prelude.{◌≡◌, T, [], ◌∷◌, Ok, Err};
 ghost use Rattle.field.specs.Defined.{among, defined_field};
 ghost use Rattle.refusal.specs.declared.Refusal.TheVariants.{FieldOrder};

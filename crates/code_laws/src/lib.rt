@@ -1,4 +1,6 @@
 // The laws of the component codes, as theorems: at every length, number of checks and radius, and over every field.
+#![tactic(auto)]
+
 ghost use Rattle.code_laws.specs.Laws.{BchIsLawful, ReedSolomonIsLawful};
 
 // Two words of a Reed-Solomon code that differ in at most twice its radius are equal, over any field with the laws.

@@ -1,8 +1,10 @@
 // The component code interface: linear checks over a field, and decoding within a radius.
+#![tactic(auto)]
+
 ghost use Rattle.std.specs.Prelude.{◌≡◌, ℕ, ◌<◌, true, length};
 ghost use Rattle.component.specs.Calls.{decode_answer, decode_left, first_no_code, how_decoded};
 ghost use Rattle.component.specs.Decoding.{DecodedNear, DecodedOnly, RefusedFar, decoded, settled};
-ghost use Rattle.component.specs.Model.{CodeLaws, CodeModel, is_word, over_field};
+ghost use Rattle.component.specs.Model.{CodeLaws, CodeModel, over_field};
 
 use field::{Field, is_listed};
 use refusal::Refusal;
@@ -42,11 +44,6 @@ pub trait ComponentCode {
     // The coefficient of a check at a seat.
     fn coefficient(&self, check: usize, seat: usize) -> u8
         ensures { result ≡ (model self.now).coefficient check seat };
-
-    // Whether a word of the right length over the field is a code word.
-    fn passes(&self, word: &[u8]) -> bool
-        requires { over_field (model self.now) word.now ≡ true }
-        ensures { result ≡ is_word (model self.now) word.now };
 
     // Decodes a word of the right length over the field.
     fn settle(&self, word: &mut [u8]) -> Decoding

@@ -1,4 +1,6 @@
 // Pure combinatorics: points and lines, where two points share at most one line. The theorems are contracts of functions that do nothing.
+#![tactic(auto)]
+
 ghost use Rattle.counting.specs.Incidence.{Decrease, Distance, Dual};
 
 // A few lines have fewer points that lie on more than t of them.

@@ -1,5 +1,6 @@
 // What the library can do so far, done step by step and printed: a Reed-Solomon word is spoiled and put right, or refused; and
 // a small plane is drawn.
+#![tactic(auto)]
 
 mod correction;
 mod picture;

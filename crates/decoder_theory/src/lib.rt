@@ -1,4 +1,6 @@
 // The decoder of a graph code as a machine, and why a run within bounds succeeds. The theorems are contracts of functions that do nothing.
+#![tactic(auto)]
+
 ghost use Rattle.decoder_theory.specs.Bounds.{PlanesShrink};
 ghost use Rattle.decoder_theory.specs.Correction.{Corrects, CorrectsToBound};
 ghost use Rattle.decoder_theory.specs.Distance.{WordsApart};

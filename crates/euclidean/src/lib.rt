@@ -1,4 +1,6 @@
 // The Euclidean plane over any field.
+#![tactic(auto)]
+
 ghost use Rattle.std.specs.Prelude.{◌≡◌, Ok, Err};
 ghost use Rattle.geometry.specs.Limits.{standing as standing_of};
 ghost use Rattle.euclidean.specs.Formulas.{euclidean as euclidean_plane};

@@ -1,4 +1,6 @@
 // The field interface: what the arithmetic of coordinates and symbols is asked for, and what it promises.
+#![tactic(auto)]
+
 ghost use Rattle.std.specs.Prelude.{◌≡◌};
 ghost use Rattle.field.specs.Defined.{listed};
 ghost use Rattle.field.specs.Laws.{FieldLaws};

@@ -1,4 +1,6 @@
 // The field of order 256: polynomials over two elements modulo x⁸ + x⁴ + x³ + x² + 1, with products read from two tables.
+#![tactic(auto)]
+
 ghost use Rattle.std.specs.Prelude.{◌≡◌};
 ghost use Rattle.field.specs.Defined.{defined_field};
 ghost use Rattle.field256.specs.Powers;

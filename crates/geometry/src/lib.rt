@@ -1,5 +1,7 @@
 // What a geometry is, and what a quadrangle is: the two interfaces, with what they promise.
 // A geometry has points and lines, and an edge for each point with a line through it.
+#![tactic(auto)]
+
 ghost use Rattle.std.specs.Prelude.{◌≡◌};
 ghost use Rattle.geometry.specs.Incidence.{OnePoint};
 ghost use Rattle.geometry.specs.Laws.{GeometryLaws};

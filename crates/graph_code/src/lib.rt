@@ -1,4 +1,6 @@
 // Graph codes: a word has a symbol on each edge of a geometry, and passes at a vertex if the symbols there are a code word.
+#![tactic(auto)]
+
 ghost use Rattle.std.specs.Prelude.{◌≡◌, Ok, Err};
 ghost use Rattle.graph_code.specs.Calls.{round_answer, round_left, test_answer};
 ghost use Rattle.graph_code.specs.Checks.{admitted, standing as standing_of, word_standing};

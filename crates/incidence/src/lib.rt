@@ -1,4 +1,6 @@
 // Whether a point of a geometry lies on a line.
+#![tactic(auto)]
+
 ghost use Rattle.geometry.specs.Incidence.{On};
 ghost use Rattle.std.specs.Prelude.{MatchBool};
 

@@ -1,4 +1,6 @@
 // Prime fields: arithmetic modulo 2, 3, 5, 7, 11 or 13.
+#![tactic(auto)]
+
 ghost use Rattle.std.specs.Prelude.{◌≡◌, T, Ok, Err};
 ghost use Rattle.field.specs.Defined.{among, defined_field, prime_orders};
 ghost use Rattle.refusal.specs.declared.Refusal.TheVariants.{FieldOrder};

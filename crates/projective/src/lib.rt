@@ -1,4 +1,6 @@
 // The projective plane over any field.
+#![tactic(auto)]
+
 ghost use Rattle.std.specs.Prelude.{◌≡◌, ◌+◌, ◌*◌, ◌^◌, ◌<◌, ◌≤◌, Ok, Err};
 ghost use Rattle.geometry.specs.Limits.{standing as standing_of};
 ghost use Rattle.projective.specs.Formulas.{opposite as opposite_of, projective as projective_plane, seat_of, triple_of, vertex_at};

@@ -1,4 +1,6 @@
 // The quadrangle over any field: the affine part of a generalised quadrangle.
+#![tactic(auto)]
+
 ghost use Rattle.std.specs.Prelude.{◌≡◌, ◌^◌, ◌<◌, Ok, Err};
 ghost use Rattle.geometry.specs.Limits.{standing as standing_of};
 ghost use Rattle.geometry.specs.Projection.{OnePair};

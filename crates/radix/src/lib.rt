@@ -1,4 +1,6 @@
 // Internal: arithmetic of numbers to the base q, for the geometries alone. A base is the order of a field, at most 256, and one more for the edges of the projective plane.
+#![tactic(auto)]
+
 ghost use Rattle.std.specs.Prelude.{◌≡◌, ℕ, ◌+◌, ◌*◌, ◌/◌, ◌%◌, ◌^◌, ◌<◌, ◌≤◌};
 ghost use Rattle.radix.specs.Digits.{first, second, third, number};
 

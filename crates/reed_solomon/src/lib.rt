@@ -1,4 +1,6 @@
 // Extended Reed-Solomon codes over any field.
+#![tactic(auto)]
+
 ghost use Rattle.std.specs.Prelude.{◌≡◌, Some, None, Ok, Err};
 ghost use Rattle.reed_solomon.specs.Calls.{new_refusal};
 ghost use Rattle.reed_solomon.specs.Model.{reed_solomon, within_limits};

@@ -1,4 +1,6 @@
 // Why the Reed-Solomon decoder is right, over any field: theorems, with no code.
+#![tactic(auto)]
+
 ghost use Rattle.reed_solomon_theory.specs.Code.{Distance};
 ghost use Rattle.reed_solomon_theory.specs.Decode.{FewRoots, Mends};
 ghost use Rattle.reed_solomon_theory.specs.Promise.{Finishes, Only, Stays};

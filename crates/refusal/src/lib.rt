@@ -1,4 +1,6 @@
 // What a refused call answers, and what the decoder reports.
+#![tactic(auto)]
+
 ghost use Rattle.std.specs.Prelude.{◌≡◌};
 ghost use Rattle.refusal.specs.Numbers.{number};
 

@@ -1,4 +1,6 @@
 // Runs a script of calls: reads it on standard input, and prints each call line and under it its answer line.
+#![tactic(auto)]
+
 mod answering;
 mod reading;
 mod words;

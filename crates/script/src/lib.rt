@@ -1,4 +1,6 @@
 // The calls that a script may make, and their answers, worked out by the library.
+#![tactic(auto)]
+
 mod answer;
 mod call;
 mod code_calls;

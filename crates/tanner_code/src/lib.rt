@@ -1,4 +1,6 @@
 // A graph code put together from a geometry and two component codes.
+#![tactic(auto)]
+
 ghost use Rattle.std.specs.Prelude.{◌≡◌, ◌&&◌};
 ghost use Rattle.field.specs.Defined.{listed};
 ghost use Rattle.tanner_code.specs.Model.{graph};
