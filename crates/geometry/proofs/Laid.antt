@@ -26,7 +26,7 @@ module _ (n m s : ℕ) (Inc : ℕ → ℕ → Type 0) (at seat : ℕ → ℕ →
       ]
 
 module _ (y : Layout) (Inc : ℕ → ℕ → Type 0) (laws : LayoutLaws y Inc) where
-  open y use {points, lines, point_degree, line_degree, line_at_lem, seat_at, point_on, seat_on}
+  open y use {points, lines, point_degree, line_degree, line_at, seat_at, point_on, seat_on}
   open laws use {some_points, some_lines, some_point_degree, some_line_degree, count, of_points, of_lines}
 
   abbrev u : ℕ
@@ -41,8 +41,8 @@ module _ (y : Layout) (Inc : ℕ → ℕ → Type 0) (laws : LayoutLaws y Inc) w
   place_lt : (e : ℕ) → e % u < u
   place_lt e = mod-lt e some_line_degree
 
-  seat_line : (p i : ℕ) → p < points → i < point_degree → seat_at p (line_at_lem p i) ≡ i
-  seat_line = seat_is points lines point_degree Inc line_at_lem seat_at of_points
+  seat_line : (p i : ℕ) → p < points → i < point_degree → seat_at p (line_at p i) ≡ i
+  seat_line = seat_is points lines point_degree Inc line_at seat_at of_points
 
   seat_point : (l j : ℕ) → l < lines → j < u → seat_on l (point_on l j) ≡ j
   seat_point = seat_is lines points u (λ l p. Inc p l) point_on seat_on of_lines
@@ -89,17 +89,17 @@ module _ (y : Layout) (Inc : ℕ → ℕ → Type 0) (laws : LayoutLaws y Inc) w
   pub inc_on : (p l : ℕ) → p < points → l < lines → Inc p l → On g p l
   inc_on p l hp hl inc = (joint p l, joint_in p l hp hl inc, joint_point p l hp hl inc, joint_line p l hp hl inc)
 
-  edge_is : (p i : ℕ) → g.edge p i ≡ joint p (line_at_lem p i)
+  edge_is : (p i : ℕ) → g.edge p i ≡ joint p (line_at p i)
   unfolding joint
   edge_is p i = refl
 
-  edge_line : (p i : ℕ) → p < points → i < point_degree → g.edge p i / u ≡ line_at_lem p i
+  edge_line : (p i : ℕ) → p < points → i < point_degree → g.edge p i / u ≡ line_at p i
   edge_line p i hp hi =
-      ap (λ e. e / u) (edge_is p i) ∙ joint_line p (line_at_lem p i) hp (of_points.at_in p i hp hi) (of_points.at_inc p i hp hi)
+      ap (λ e. e / u) (edge_is p i) ∙ joint_line p (line_at p i) hp (of_points.at_in p i hp hi) (of_points.at_inc p i hp hi)
 
   edge_point' : (p i : ℕ) → p < points → i < point_degree → g.point (g.edge p i) ≡ p
   edge_point' p i hp hi =
-      ap g.point (edge_is p i) ∙ joint_point p (line_at_lem p i) hp (of_points.at_in p i hp hi) (of_points.at_inc p i hp hi)
+      ap g.point (edge_is p i) ∙ joint_point p (line_at p i) hp (of_points.at_in p i hp hi) (of_points.at_inc p i hp hi)
 
   pub laid_lawful : GeometryLaws g
   laid_lawful = record {
@@ -108,7 +108,7 @@ module _ (y : Layout) (Inc : ℕ → ℕ → Type 0) (laws : LayoutLaws y Inc) w
     some_point_degree = some_point_degree;
     some_line_degree = some_line_degree;
     count = count;
-    edge_in = λ p i hp hi. subst (λ e. e < edges g) (sym (edge_is p i)) (joint_in p (line_at_lem p i) hp (of_points.at_in p i hp hi) (of_points.at_inc p i hp hi));
+    edge_in = λ p i hp hi. subst (λ e. e < edges g) (sym (edge_is p i)) (joint_in p (line_at p i) hp (of_points.at_in p i hp hi) (of_points.at_inc p i hp hi));
     point_in = point_in;
     seat_in = λ e h. of_points.seat_in (g.point e) (e / u) (point_in e h) (line_lt e h) (incident e h);
     point_edge = edge_point';

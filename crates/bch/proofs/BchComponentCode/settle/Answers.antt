@@ -29,16 +29,16 @@ returns-then-self-ne2 c =
     let n = c.args.self.now.size in
     let xs = c.args.word.now in
     let r = c.syndrome-sum.result in
-    let e = refuse_one n t xs c.requires r c.syndrome-sum.ensures c.if-self-ne2.true c.if-sum-eq0.false c.in-default.ensures in
+    let e = refuse_one n t xs c.requires r c.syndrome-sum.ensures c.if-self-ne2.true c.if-sum-eq0.false c.in_default.ensures in
     record { answer = sym (ap how_decoded e); after = sym (ap (kept_or xs) e) }
 
-pub returns-in-default-pair-with : goal.returns-in-default-pair-with
-returns-in-default-pair-with c =
+pub returns-in_default-pair_with : goal.returns-in_default-pair_with
+returns-in_default-pair_with c =
     let t = c.args.self.now.radius in
     let n = c.args.self.now.size in
     let xs = c.args.word.now in
     let r = c.syndrome-sum.result in
-    let e = refuse_two n t xs c.requires r c.syndrome-sum.ensures c.if-self-ne2.false c.if-sum-eq0.false c.in-default.ensures c.in-default-pair-with.ensures in
+    let e = refuse_two n t xs c.requires r c.syndrome-sum.ensures c.if-self-ne2.false c.if-sum-eq0.false c.in_default.ensures c.in_default-pair_with.ensures in
     record { answer = sym (ap how_decoded e); after = sym (ap (kept_or xs) e) }
 
 pub returns : goal.returns
@@ -47,6 +47,6 @@ returns c =
     let n = c.args.self.now.size in
     let xs = c.args.word.now in
     let r = c.syndrome-sum.result in
-    let p = c.in-Some-pair-with.ensures in
-    let e = settle_two n t xs c.requires r c.syndrome-sum.ensures c.in-Some-pair-with.first c.in-Some-pair-with.last c.if-self-ne2.false p.0 p.1 p.2 in
-    record { answer = sym (ap how_decoded e); after = c.flip-3.ensures ∙ ap (flipped c.in-Some-pair-with.last) c.flip-2.ensures ∙ sym (ap (kept_or xs) e) }
+    let p = c.in-Some-pair_with.ensures in
+    let e = settle_two n t xs c.requires r c.syndrome-sum.ensures c.in-Some-pair_with.first c.in-Some-pair_with.last c.if-self-ne2.false p.0 p.1 p.2 in
+    record { answer = sym (ap how_decoded e); after = c.flip-3.ensures ∙ ap (flipped c.in-Some-pair_with.last) c.flip-2.ensures ∙ sym (ap (kept_or xs) e) }

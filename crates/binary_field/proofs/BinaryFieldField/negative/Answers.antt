@@ -5,4 +5,4 @@ use Rattle.binary_field.proofs.BinaryFieldField.negative.Goals as goal
 
 pub returns : goal.returns
 returns c =
-    neg_read c.args.self.now c.args.a c.read-code.result (c.read-code.ensures ∙ ap (λ n. as_code n c.args.a) c.order.ensures)
+    neg_read c.args.self.now c.args.a c.read_code.result (c.read_code.ensures ∙ ap (λ n. as_code n c.args.a) c.order.ensures)

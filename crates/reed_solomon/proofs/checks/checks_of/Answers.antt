@@ -15,5 +15,5 @@ loop-seat-preserved g c =
     let φ = g.F.Field.model c.args.field.now in
     let laws = g.met.F.Field.lawful c.args.field.now in (
       search rules,
-      λ j h. c.add-symbol.ensures j h ∙ check_more φ laws c.loop-seat.seat j (at c.loop-seat.sums) (at c.args.word.now) (c.loop-seat.invariant.1 j h),
+      λ j h. c.add_symbol.ensures j h ∙ check_more φ laws c.loop-seat.seat j (at c.loop-seat.sums) (at c.args.word.now) (c.loop-seat.invariant.1 j h),
     )

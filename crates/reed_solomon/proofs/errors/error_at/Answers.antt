@@ -26,8 +26,8 @@ loop-k-preserved g c =
     elim c.if-seat-m.branch [
       | then-seat-m w ↦
           (let next = next_other m k seats here w.if-seat-m.true in (
-            ap length w.x-is ∙ w.shed-by.array_long,
-            (λ j. ap (λ x. at x j) w.x-is ∙ w.shed-by.ensures j ∙ shed_same φ laws seat (at c.loop-k.x) (shed_all φ ks s) j c.loop-k.invariant.1 ∙ sym (shed_push φ laws ks seat s j) ∙ ap (λ l. shed_all φ l s j) (sym next)),
+            ap length w.x-is ∙ w.shed_by.array_long,
+            (λ j. ap (λ x. at x j) w.x-is ∙ w.shed_by.ensures j ∙ shed_same φ laws seat (at c.loop-k.x) (shed_all φ ks s) j c.loop-k.invariant.1 ∙ sym (shed_push φ laws ks seat s j) ∙ ap (λ l. shed_all φ l s j) (sym next)),
             w.divisor-is ∙ w.product-divisor.ensures ∙ ap₂ φ.prod (w.sum.ensures ∙ ap (φ.sum m) w.negative.ensures) c.loop-k.invariant.2 ∙ kill_push φ laws ks seat m ∙ ap (λ l. kill φ l m) (sym next),
           ))
       | else-seat-m w ↦
@@ -46,5 +46,5 @@ returns g c =
     let seats = c.args.found.now.seats in
     let s = at c.args.sums.now in
     let end : c.loop-k.k ≡ c.args.found.now.count = omega arith in
-    error_is φ laws (take c.args.found.now.count seats) s m (get_or c.loop-k.x 0 0) c.loop-k.divisor c.inverse-or-zero.result c.product.result
-    (c.loop-k.invariant.1 0 ∙ ap (λ k. shed_all φ (without m (take k seats)) s 0) end) (c.loop-k.invariant.2 ∙ ap (λ k. kill φ (without m (take k seats)) m) end) c.inverse-or-zero.ensures c.product.ensures
+    error_is φ laws (take c.args.found.now.count seats) s m (get_or c.loop-k.x 0 0) c.loop-k.divisor c.inverse_or_zero.result c.product.result
+    (c.loop-k.invariant.1 0 ∙ ap (λ k. shed_all φ (without m (take k seats)) s 0) end) (c.loop-k.invariant.2 ∙ ap (λ k. kill φ (without m (take k seats)) m) end) c.inverse_or_zero.ensures c.product.ensures

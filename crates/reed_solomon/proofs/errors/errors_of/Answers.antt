@@ -12,8 +12,8 @@ loop-k-preserved g c =
     let four : length c.args.found.now.seats ≡ 4 = search rules in
     let few : c.args.found.now.count ≤ 4 = c.requires in
     let room = c.loop-k.invariant.0 in (
-      length-set c.loop-k.values c.loop-k.k c.error-at.result ∙ room,
-      values_turn f c.loop-k.values seats c.loop-k.k c.error-at.result (omega arith) (omega arith) c.loop-k.invariant.1 c.error-at.ensures,
+      length-set c.loop-k.values c.loop-k.k c.error_at.result ∙ room,
+      values_turn f c.loop-k.values seats c.loop-k.k c.error_at.result (omega arith) (omega arith) c.loop-k.invariant.1 c.error_at.ensures,
     )
 
 pub returns : goal.returns

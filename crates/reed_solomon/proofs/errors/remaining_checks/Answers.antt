@@ -18,7 +18,7 @@ loop-k-preserved g c =
     let k = c.loop-k.k in
     let few : c.args.found.now.count ≤ 4 = c.requires.small in (
       search rules,
-      λ j h. c.add-symbol.ensures j h
+      λ j h. c.add_symbol.ensures j h
           ∙ added_same φ laws (get_or seats k 0) c.negative.result j (at c.loop-k.rest) (remaining φ (take k seats) (take k values) s) (c.loop-k.invariant.1 j h)
           ∙ ap (λ d. Rattle.reed_solomon_theory.specs.Decode.added φ (get_or seats k 0) d (remaining φ (take k seats) (take k values) s) j) c.negative.ensures
           ∙ remaining_more φ seats values k s j (search rules) (search rules) (omega arith),

@@ -15,16 +15,16 @@ bounds-seats-count g c =
     let i = c.loop-i.i in
     let row = c.args.row.now in
     room c.loop-i.seats (roots φ c.args.n row) c.loop-i.count i (λ i. eqb (value φ row i) 0)
-    c.loop-i.invariant.0 c.loop-i.invariant.1 c.loop-i.invariant.2 c.requires.few (omega arith) (eq-eqb (value φ row (i - 1)) 0 (sym c.value-at.ensures ∙ c.if-value-at-eq0.true))
+    c.loop-i.invariant.0 c.loop-i.invariant.1 c.loop-i.invariant.2 c.requires.few (omega arith) (eq-eqb (value φ row (i - 1)) 0 (sym c.value_at.ensures ∙ c.if-value_at-eq0.true))
 
-pub loop-i-preserved-then-value-at-eq0 : goal.loop-i-preserved-then-value-at-eq0
+pub loop-i-preserved-then-value_at-eq0 : goal.loop-i-preserved-then-value_at-eq0
 unfolding roots
-loop-i-preserved-then-value-at-eq0 g c =
+loop-i-preserved-then-value_at-eq0 g c =
     let φ = g.F.Field.model c.args.field.now in
     let laws = g.met.F.Field.lawful c.args.field.now in
     let i = c.loop-i.i in
     let row = c.args.row.now in
-    let is = eq-eqb (value φ row (i - 1)) 0 (sym c.value-at.ensures ∙ c.if-value-at-eq0.true) in
+    let is = eq-eqb (value φ row (i - 1)) 0 (sym c.value_at.ensures ∙ c.if-value_at-eq0.true) in
     let space : c.loop-i.count < 4 = room c.loop-i.seats (roots φ c.args.n row) c.loop-i.count i (λ i. eqb (value φ row i) 0)
     c.loop-i.invariant.0 c.loop-i.invariant.1 c.loop-i.invariant.2 c.requires.few (omega arith) is in (
       length-set c.loop-i.seats c.loop-i.count (i - 1) ∙ c.loop-i.invariant.0,
@@ -42,7 +42,7 @@ loop-i-preserved g c =
       c.loop-i.invariant.0,
       c.loop-i.invariant.1,
       passed_turn c.loop-i.seats (roots φ c.args.n row) c.loop-i.count i (λ i. eqb (value φ row i) 0) c.loop-i.invariant.2 (omega arith)
-          (ne_eqb (value φ row (i - 1)) 0 (λ q. c.if-value-at-eq0.false (c.value-at.ensures ∙ q))),
+          (ne_eqb (value φ row (i - 1)) 0 (λ q. c.if-value_at-eq0.false (c.value_at.ensures ∙ q))),
     )
 
 pub returns : goal.returns

@@ -11,6 +11,6 @@ returns g c =
     let pivot = c.args.pivot.now in
     let row = c.args.row.now in
     let five = c.loop-k.invariant.0 in
-    let factor = c.negative-factor.ensures ∙ ap φ.neg (c.product.ensures ∙ ap₂ φ.prod c.against-at.ensures c.inverse-or-zero.ensures) in
+    let factor = c.negative-factor.ensures ∙ ap φ.neg (c.product.ensures ∙ ap₂ φ.prod c.against_at.ensures c.inverse_or_zero.ensures) in
     plus_by_places φ laws c.negative-factor.result pivot row c.loop-k.out (omega arith) (omega arith) (λ m h. c.loop-k.invariant.1 m (omega arith))
     ∙ ap (λ x. plus φ x pivot row) factor

@@ -11,9 +11,9 @@ returns-then-v-ne0 g c =
     let s = at c.args.sums.now in
     let rows = c.loop-p.rows in
     record {
-      after = pivot_j φ laws s 5 (c.args.t + 1) c.args.j c.args.count c.loop-p.p c.against-at-v.result (λ l. get_or rows l []) (λ l. get_or c.clear-after.new.rows l [])
+      after = pivot_j φ laws s 5 (c.args.t + 1) c.args.j c.args.count c.loop-p.p c.against_at-v.result (λ l. get_or rows l []) (λ l. get_or c.clear_after.new.rows l [])
           (subst (λ x. Basis φ s 5 (c.args.t + 1) c.args.j c.args.count (λ l. get_or x l [])) (sym c.loop-p.invariant.0) c.requires.basis)
-          (omega arith) c.loop-p.invariant.1 c.against-at-v.ensures c.if-v-ne0.true c.clear-after.ensures.before c.clear-after.ensures.after;
+          (omega arith) c.loop-p.invariant.1 c.against_at-v.ensures c.if-v-ne0.true c.clear_after.ensures.before c.clear_after.ensures.after;
       fewer = search rules;
       enough = search rules;
     }
