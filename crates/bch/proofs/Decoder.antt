@@ -3,7 +3,7 @@ use Rattle.std.proofs.Common.{◌≡◌, ℕ, ◌<◌, ◌≤◌, Bool, true, fa
 use native.Mathlib.Decide.{ℕ_discrete}
 use lib.Bits.{bit_xor, xor_assoc, xor_self, xor_zero_r}
 use Rattle.std.proofs.lemmas.Bool.{and_parts, and_from, eqb-true, ltb-true}
-use Rattle.ranges.specs.Ranges.{sum, every, apart, differ}
+use Rattle.ranges.specs.Ranges.{every, apart, differ}
 use Rattle.ranges.proofs.Tests.{every_at, apart_le}
 use Rattle.component.specs.Model.{CodeModel, is_word, over_field}
 use Rattle.component.specs.Decoding.{decoded}

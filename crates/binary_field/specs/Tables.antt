@@ -5,9 +5,9 @@ use Rattle.std.proofs.lemmas.Nat.{div-mul-add, mod-mul-add, mul-add-lt}
 use Rattle.std.proofs.lemmas.Bool.{ne_eqb}
 use Rattle.field.specs.Model.{as_code, inverse}
 use Rattle.field.specs.Polynomials.{bit, scaled, poly_product, remainder}
-use Rattle.field.specs.Defined.{among, prime_orders, binary_orders, degree, modulus, defined_sum, defined_neg, defined_prod, defined_inv, defined_field}
+use Rattle.field.specs.Defined.{among, prime_orders, degree, modulus, defined_sum, defined_neg, defined_prod, defined_inv, defined_field}
 use Rattle.field.specs.Laws.{FieldLaws}
-use Rattle.field.proofs.Codes.{code_is, code_lt}
+use Rattle.field.proofs.Codes.{code_lt}
 use Rattle.field.proofs.Ring.{inverse_only}
 use Rattle.field_theory.proofs.Scan.{both, both_left, both_right, every, at}
 use Rattle.field_theory.proofs.Lawful.{binary_field_lawful}

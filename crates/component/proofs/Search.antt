@@ -1,10 +1,10 @@
 -- The laws of decoding.
-use Rattle.std.proofs.Common.{◌≡◌, ℕ, zero, suc, ◌+◌, ◌*◌, ◌<◌, ◌≤◌, Bool, true, false, cond, ◌&&◌, eqb, ltb, leb, List, [], ◌∷◌, ◌++◌, map, length, get_or, Some, None, Option, sym, refl, ap, ◌∙◌, arith}
+use Rattle.std.proofs.Common.{◌≡◌, ℕ, zero, suc, ◌+◌, ◌<◌, ◌≤◌, Bool, true, false, ◌&&◌, eqb, ltb, leb, List, [], ◌∷◌, ◌++◌, map, length, get_or, Some, None, Option, sym, refl, ap, ◌∙◌, arith}
 use Rattle.std.proofs.lemmas.Bool.{and_parts, and_from, both_ways, eqb-true, ltb-true, leb-true, le-leb}
 use Rattle.std.specs.List.{range_with_len}
-use Rattle.ranges.specs.Ranges.{sum, every, or_else, when, apart, differ}
-use Rattle.ranges.proofs.Sums.{sum_lin, sum_le, sum_eq}
-use Rattle.component.specs.Model.{CodeModel, CodeLaws, is_word, check_sum}
+use Rattle.ranges.specs.Ranges.{every, or_else, when, apart, differ}
+use Rattle.ranges.proofs.Sums.{sum_lin}
+use Rattle.component.specs.Model.{CodeModel, is_word, check_sum}
 use Rattle.component.specs.Decoding.{extended, all_words, first_that, near, decoded, DecodedNear, RefusedFar, DecodedOnly}
 use Rattle.ranges.proofs.Tests.{every_at, apart_zero, apart_le}
 

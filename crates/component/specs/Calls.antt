@@ -1,5 +1,5 @@
 -- What a call of decoding answers, and what it leaves in the buffer.
-use Rattle.std.specs.Prelude.{◌≡◌, ℕ, Bool, true, false, cond, not, List, length, Some, None, Ok, Err, Option, Result, ◌==◌, nat_lt, slice_index}
+use Rattle.std.specs.Prelude.{ℕ, cond, not, List, length, Some, None, Ok, Err, Option, Result, ◌==◌, nat_lt, slice_index}
 use Rattle.field.specs.Defined.{listed}
 use Rattle.ranges.specs.Ranges.{first_below}
 use Rattle.refusal.specs.declared.Refusal.{Refusal}

@@ -1,5 +1,5 @@
 -- What a component code means: linear checks over a field, and a radius within which a word can be decoded.
-use Rattle.std.specs.Prelude.{◌≡◌, ℕ, ◌*◌, ◌<◌, ◌≤◌, Bool, true, ◌&&◌, List, length, ◌==◌, nat_eq, nat_lt, slice_index}
+use Rattle.std.specs.Prelude.{◌≡◌, ℕ, ◌*◌, ◌≤◌, Bool, true, ◌&&◌, List, length, ◌==◌, nat_eq, nat_lt, slice_index}
 use Rattle.field.specs.Model.{FieldModel}
 use Rattle.field.specs.Laws.{FieldLaws}
 use Rattle.field.specs.Sums.{field_sum}

@@ -1,5 +1,5 @@
 -- The decoder as a machine: its state and its word together fix what a step does, and a run steps until a verdict.
-use Rattle.std.specs.Prelude.{◌≡◌, ℕ, zero, suc, ◌+◌, Bool, true, false, List, Some, None, Option, ◌==◌, nat_le}
+use Rattle.std.specs.Prelude.{ℕ, zero, suc, ◌+◌, Bool, true, false, List, Some, None, Option, ◌==◌, nat_le}
 use Rattle.refusal.specs.declared.Vertex.{Vertex}
 use Rattle.refusal.specs.declared.Vertex.TheVariants.{Point}
 use Rattle.refusal.specs.declared.Verdict.{Verdict}

@@ -1,5 +1,5 @@
 -- Sums over a range.
-use Rattle.std.proofs.Common.{◌≡◌, ℕ, zero, suc, ◌+◌, ◌<◌, ◌≤◌, ◌≢◌, ◌⊎◌, sym, refl, ap, ◌∙◌, ap₂, inl, inr, arith}
+use Rattle.std.proofs.Common.{◌≡◌, ℕ, zero, suc, ◌<◌, ◌≢◌, sym, refl, ap, ◌∙◌, ap₂, arith}
 use native.Mathlib.Decide.{ℕ_discrete}
 use Rattle.field.specs.Model.{FieldModel}
 use Rattle.field.specs.Laws.{FieldLaws}

@@ -1,7 +1,6 @@
 -- What follows at once from the laws of a field.
-use Rattle.std.proofs.Common.{◌≡◌, ℕ, zero, suc, ◌+◌, ◌<◌, ◌≤◌, ◌≢◌, ◌⊎◌, sym, refl, ap, ◌∙◌, ap₂, inl, inr, arith}
-use native.Mathlib.Decide.{ℕ_discrete}
-use Rattle.field.specs.Model.{FieldModel, as_code}
+use Rattle.std.proofs.Common.{◌≡◌, ℕ, ◌<◌, ◌≢◌, sym, ap, ◌∙◌, ap₂, arith}
+use Rattle.field.specs.Model.{FieldModel}
 use Rattle.field.specs.Laws.{FieldLaws}
 
 module _ (φ : FieldModel) (laws : FieldLaws φ) where

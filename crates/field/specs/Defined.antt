@@ -1,5 +1,5 @@
 -- The listed orders, and the arithmetic that is defined for each.
-use Rattle.std.specs.Prelude.{ℕ, zero, suc, ◌+◌, ◌-◌, ◌*◌, ◌%◌, Bool, true, false, cond, ◌||◌, List, [], ◌∷◌, ◌==◌, bit_xor, nat_eq}
+use Rattle.std.specs.Prelude.{ℕ, zero, suc, ◌+◌, ◌-◌, ◌*◌, ◌%◌, Bool, false, cond, ◌||◌, List, [], ◌∷◌, ◌==◌, bit_xor, nat_eq}
 use Rattle.field.specs.Model.{FieldModel, as_code}
 use Rattle.field.specs.Polynomials.{poly_product, remainder}
 

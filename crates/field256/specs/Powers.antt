@@ -2,13 +2,13 @@
 use Rattle.std.specs.Prelude.{◌≡◌, ℕ, zero, suc, ◌+◌, ◌-◌, ◌<◌, Bool, true, cond, T, List, [], ◌∷◌, length, Some, None, Option, ◌==◌, bit_xor, nat_eq, nat_lt, slice_index, slice_index_or, refl}
 use Rattle.std.proofs.Common.{sym, ap, ap₂, ◌∙◌, arith, zero-add, suc-add, add_comm, lit<, eqb→eq, ltb→lt}
 use Rattle.std.proofs.lemmas.Bool.{ne_eqb}
-use Rattle.field.specs.Model.{as_code, inverse}
+use Rattle.field.specs.Model.{inverse}
 use Rattle.field.specs.Polynomials.{bit, scaled}
 use Rattle.field.specs.Defined.{degree, modulus, defined_sum, defined_neg, defined_prod, defined_inv, defined_field}
 use Rattle.field.specs.Laws.{FieldLaws}
 use Rattle.field.proofs.Codes.{code_is}
 use Rattle.field.proofs.Ring.{inverse_only, zero_prod, prod_zero}
-use Rattle.field_theory.proofs.Scan.{both, both_left, both_right, every, at}
+use Rattle.field_theory.proofs.Scan.{both, both_left, both_right, at}
 use Rattle.field_theory.proofs.Horner.{times_x, horner, dbl_lt, mul_dbl, mul_one_left}
 use Rattle.field_theory.proofs.Binary.{by_horner, sum_is, neg_is}
 use Rattle.field_theory.proofs.Lawful.{binary_field_lawful}

@@ -1,5 +1,5 @@
 -- Polynomials over two elements, modulo one of degree m, are a field if each but 0 has an inverse.
-use Rattle.std.proofs.Common.{◌≡◌, ℕ, ◌+◌, ◌^◌, ◌<◌, ◌≤◌, false, T, List, [], ◌∷◌, length, sym, ap, ◌∙◌, subst, ap₂, arith, pow_pos, pow_mono}
+use Rattle.std.proofs.Common.{◌≡◌, ℕ, ◌+◌, ◌^◌, ◌<◌, ◌≤◌, false, T, List, length, sym, ap, ◌∙◌, subst, ap₂, arith, pow_pos, pow_mono}
 use lib.Bits.{bit_xor, xor_comm, xor_assoc, xor_self, xor_zero_r, xor_lt}
 use Rattle.std.proofs.lemmas.Bool.{cond-false}
 use Rattle.field.specs.Model.{FieldModel, as_code}

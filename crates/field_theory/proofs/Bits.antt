@@ -1,5 +1,5 @@
 -- Coefficients of polynomials over two elements, and exclusive or.
-use Rattle.std.proofs.Common.{◌≡◌, ℕ, zero, suc, ◌+◌, ◌*◌, ◌/◌, ◌%◌, ◌^◌, ◌<◌, ◌≤◌, sym, refl, ap, ◌∙◌, ap₂, lt_of_lt_of_le, add-zero, pow-suc, mul-one, div-one, arith, pow_pos, pow_mono}
+use Rattle.std.proofs.Common.{◌≡◌, ℕ, zero, suc, ◌+◌, ◌*◌, ◌/◌, ◌%◌, ◌^◌, ◌<◌, ◌≤◌, sym, refl, ap, ◌∙◌, ap₂, lt_of_lt_of_le, add-zero, pow-suc, div-one, arith, pow_pos, pow_mono}
 use native.Mathlib.Nat.{div-eq_of_lt, pow-succ', mul-div-mul_right, div-div-eq-div-mul}
 use lib.Bits.{bit_xor, xor_comm, xor_assoc, xor_self, xor_zero_r, xor_shr, xor_mod, xor_block}
 use Rattle.field.specs.Polynomials.{bit, scaled}

@@ -1,7 +1,6 @@
 -- Inverses: a list of them, tested at each entry, and the one that the definition finds.
-use Rattle.std.proofs.Common.{◌≡◌, ℕ, zero, suc, ◌<◌, Bool, true, false, cond, T, eqb, ◌≢◌, List, [], ◌∷◌, length, get_or, sym, refl, ap, ◌∙◌, subst, arith, eqb→eq}
+use Rattle.std.proofs.Common.{◌≡◌, ℕ, zero, suc, ◌<◌, Bool, true, false, cond, T, eqb, ◌≢◌, List, length, get_or, sym, refl, ap, ◌∙◌, subst, arith, eqb→eq}
 use mathlib.Core.Path.{fun_ext}
-use native.Mathlib.Decide.{ℕ_discrete}
 use Rattle.std.proofs.lemmas.Bool.{eq-eqb, eqb-true}
 use Rattle.field.specs.Model.{as_code}
 use Rattle.field.specs.Defined.{solution, defined_prod, defined_inv}

@@ -1,8 +1,7 @@
 -- What is defined for each listed order is a field.
-use Rattle.std.proofs.Common.{◌≡◌, ℕ, Bool, true, false, ◌||◌, T, eqb, List, [], ◌∷◌, sym, refl, subst, lit<, lit≤, eqb→eq}
-use Rattle.field.specs.Model.{as_code}
+use Rattle.std.proofs.Common.{ℕ, Bool, true, false, ◌||◌, T, eqb, List, [], ◌∷◌, sym, refl, subst, lit<, lit≤, eqb→eq}
 use Rattle.field.specs.Polynomials.{bit, scaled, poly_product, remainder}
-use Rattle.field.specs.Defined.{among, listed, prime_orders, binary_orders, degree, modulus, defined_prod, defined_field}
+use Rattle.field.specs.Defined.{among, prime_orders, binary_orders, degree, modulus, defined_prod, defined_field}
 use Rattle.field.specs.Laws.{FieldLaws, DefinedFieldsAreLawful}
 use Rattle.field_theory.proofs.Modular.{modular_lawful}
 use Rattle.field_theory.proofs.Binary.{binary_lawful}

@@ -1,5 +1,5 @@
 -- Worked figures of component codes.
-use Rattle.std.specs.Prelude.{◌≡◌, ℕ, true, List, [], ◌∷◌, replicate, Some, None}
+use Rattle.std.specs.Prelude.{◌≡◌, true, [], ◌∷◌, replicate, Some, None}
 use Rattle.field.specs.Defined.{defined_field}
 use Rattle.component.specs.Model.{is_word}
 use Rattle.component.specs.Decoding.{decoded}

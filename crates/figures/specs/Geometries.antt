@@ -2,7 +2,7 @@
 use Rattle.std.specs.Prelude.{◌≡◌, ℕ, ◌+◌, ◌*◌, Some, None, Ok, Err}
 use Rattle.refusal.specs.declared.Refusal.TheVariants.{FieldOrder, GeometrySize}
 use Rattle.field.specs.Defined.{defined_field}
-use Rattle.geometry.specs.Model.{GeometryModel, edges, edge_at, point_of}
+use Rattle.geometry.specs.Model.{GeometryModel, edges, edge_at}
 use Rattle.geometry.specs.Limits.{standing}
 use Rattle.euclidean.specs.Formulas.{euclidean}
 use Rattle.projective.specs.Formulas.{projective}

@@ -1,10 +1,9 @@
 -- What an admitted word is.
-use Rattle.std.proofs.Common.{◌≡◌, ℕ, ◌<◌, ◌≤◌, Bool, true, false, not, ◌&&◌, eqb, ltb, leb, List, length, get_or, Some, None, Ok, Err, Option, Result, sym, refl, ap, ◌∙◌, arith}
+use Rattle.std.proofs.Common.{◌≡◌, ℕ, ◌<◌, ◌≤◌, Bool, true, false, not, ◌&&◌, eqb, ltb, leb, List, length, get_or, Some, None, Ok, Err, Option, Result, refl, ap, arith}
 use Rattle.std.proofs.lemmas.Bool.{and_parts, eq-eqb, eqb-true, leb-true, lt-ltb, ltb-true, not-false}
 use Rattle.refusal.specs.declared.Refusal.{Refusal}
-use Rattle.refusal.specs.declared.Refusal.TheVariants.{FieldOrder, GeometrySize, CodeLimits, CodesMismatch, BufferLength, NotACode}
+use Rattle.refusal.specs.declared.Refusal.TheVariants.{FieldOrder, GeometrySize, CodeLimits, CodesMismatch, BufferLength}
 use Rattle.ranges.proofs.Tests.{first_none, none_first}
-use Rattle.geometry.specs.Model.{edges}
 use Rattle.geometry.specs.Limits.{fits}
 use Rattle.component.specs.Calls.{first_no_code}
 use Rattle.graph_code.specs.Model.{GraphModel, symbols, symbol_order}

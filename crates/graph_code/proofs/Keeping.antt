@@ -10,7 +10,7 @@ use Rattle.graph_code.specs.Words.{seen}
 use Rattle.graph_code.specs.Rounds.{settled_at, half_round, after_round}
 use Rattle.graph_code.specs.Checks.{admitted}
 use Rattle.graph_code.proofs.SideLaws.{SideLaws, side_laws}
-use Rattle.graph_code.proofs.Admission.{Stands, stands, Admitted, admits, admitted_from}
+use Rattle.graph_code.proofs.Admission.{Stands, stands, admits, admitted_from}
 use Rattle.graph_code.proofs.HalfRounds.{length_half, get_or_half, get_or_seen}
 
 module _ (σ : SideModel) (n q : ℕ) (laws : SideLaws σ n) (size : σ.code.size ≡ σ.degree) (order : σ.code.field.order ≡ q) (w : List ℕ)

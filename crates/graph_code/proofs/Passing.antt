@@ -1,8 +1,7 @@
 -- The first vertex that fails.
-use Rattle.std.proofs.Common.{◌≡◌, ℕ, ◌<◌, Bool, true, false, not, List, Some, None, Option, sym, refl, ap, ◌∙◌, arith}
-use Rattle.std.proofs.lemmas.Bool.{not-false, not_from_true}
+use Rattle.std.proofs.Common.{◌≡◌, ℕ, not, List, Some, None, Option, refl, ap, arith}
+use Rattle.std.proofs.lemmas.Bool.{not-false}
 use Rattle.refusal.specs.declared.Vertex.TheVariants.{Point, Line}
-use Rattle.ranges.specs.Ranges.{or_else, first_below}
 use Rattle.ranges.proofs.Tests.{first_none, none_first, or_none}
 use Rattle.graph_code.specs.declared.side.Side.{Side}
 use Rattle.graph_code.specs.declared.side.Side.TheVariants.{Lines, Points}

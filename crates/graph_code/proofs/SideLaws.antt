@@ -1,5 +1,5 @@
 -- Both sides of a graph code have the same laws.
-use Rattle.std.proofs.Common.{◌≡◌, ℕ, ◌+◌, ◌*◌, ◌/◌, ◌%◌, ◌<◌, true, List, get_or, sym, refl, ◌∙◌, mod-lt, div-lt_iff_lt-mul, div-add-mod'}
+use Rattle.std.proofs.Common.{◌≡◌, ℕ, ◌<◌, true, List, get_or, sym, refl, ◌∙◌, mod-lt, div-lt_iff_lt-mul, div-add-mod'}
 use lib.Arith.{digits_lt, digits_div, digits_mod}
 use Rattle.geometry.specs.Model.{GeometryModel, edges}
 use Rattle.geometry.specs.Laws.{GeometryLaws}

@@ -3,7 +3,7 @@ use Rattle.std.specs.Prelude.{ℕ, zero, suc, List, Some, None, Option, slice_in
 use Rattle.ranges.specs.Ranges.{sum, tabulate, over, differ}
 use Rattle.component.specs.Decoding.{decoded, settled}
 use Rattle.graph_code.specs.declared.side.Side.{Side}
-use Rattle.graph_code.specs.declared.side.Side.TheVariants.{Lines, Points}
+use Rattle.graph_code.specs.declared.side.Side.TheVariants.{Lines}
 use Rattle.graph_code.specs.declared.side.HalfRound.{HalfRound}
 use Rattle.graph_code.specs.Model.{GraphModel, symbols}
 use Rattle.graph_code.specs.Sides.{SideModel, side, other}

@@ -1,11 +1,11 @@
 -- The table of inverses is right.
-use Rattle.std.proofs.Common.{◌≡◌, ℕ, ◌+◌, ◌*◌, ◌/◌, ◌%◌, ◌<◌, Bool, true, false, cond, T, eqb, ltb, List, [], ◌∷◌, get_or, sym, refl, ap, ◌∙◌, subst, ap₂, arith, lit<, eqb→eq, ltb→lt}
+use Rattle.std.proofs.Common.{◌≡◌, ℕ, ◌+◌, ◌*◌, ◌/◌, ◌%◌, ◌<◌, Bool, true, false, cond, T, eqb, ltb, List, [], ◌∷◌, get_or, refl, ap, ◌∙◌, subst, ap₂, arith, lit<, eqb→eq, ltb→lt}
 use Rattle.std.proofs.lemmas.Nat.{div-mul-add, mod-mul-add}
 use Rattle.std.proofs.lemmas.Bool.{lt-ltb}
 use Rattle.field.specs.Defined.{among, prime_orders, defined_inv, defined_field}
 use Rattle.field.proofs.Codes.{code_is}
 use Rattle.field.proofs.Ring.{inverse_only}
-use Rattle.field_theory.proofs.Scan.{both, both_left, both_right, every, at}
+use Rattle.field_theory.proofs.Scan.{both, both_left, both_right, at}
 use Rattle.field_theory.proofs.Lawful.{each_at, prime_lawful}
 use Rattle.field_theory.proofs.Modular.{prod_is}
 

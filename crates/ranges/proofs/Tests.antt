@@ -1,8 +1,8 @@
 -- Tests over a range.
-use Rattle.std.proofs.Common.{◌≡◌, ℕ, zero, suc, ◌+◌, ◌<◌, ◌≤◌, Bool, true, false, cond, ◌&&◌, eqb, ltb, ◌⊎◌, List, map, length, get_or, Some, None, Option, sym, refl, ap, ◌∙◌, inl, inr, eq-or-lt_of_le, add-one, arith}
-use Rattle.std.proofs.lemmas.Bool.{and_parts, and_from, both_ways, eqb-true, eqb-false, ltb-true, ltb-false, eq-eqb, lt-ltb, cases_Bool}
+use Rattle.std.proofs.Common.{◌≡◌, ℕ, zero, suc, ◌+◌, ◌<◌, ◌≤◌, Bool, true, false, cond, eqb, ltb, length, get_or, Some, None, Option, refl, inl, inr, eq-or-lt_of_le, add-one, arith}
+use Rattle.std.proofs.lemmas.Bool.{and_parts, and_from, eqb-true, ltb-true, eq-eqb, lt-ltb}
 use Rattle.std.proofs.lemmas.List.FromFn.{length-map-range_with_len, get_or-map-range_with_len}
-use Rattle.ranges.specs.Ranges.{sum, tabulate, every, or_else, when, first_below, apart, over, differ}
+use Rattle.ranges.specs.Ranges.{tabulate, every, or_else, when, first_below, apart, over}
 
 pub length_tabulate : {X : Type 0} (n : ℕ) (f : ℕ → X) → length (tabulate n f) ≡ n
 length_tabulate n f = length-map-range_with_len f 0 n

@@ -1,5 +1,5 @@
 -- One symbol more is added to the checks; one check more is 0.
-use Rattle.std.proofs.Common.{◌≡◌, ℕ, zero, suc, ◌+◌, ◌-◌, ◌<◌, Bool, true, false, eqb, [], ◌∷◌, Option, sym, refl, ap, ◌∙◌, ap₂, add-one, arith}
+use Rattle.std.proofs.Common.{◌≡◌, ℕ, zero, suc, ◌+◌, ◌<◌, Bool, true, false, eqb, [], ◌∷◌, Option, sym, refl, ap, ◌∙◌, ap₂, add-one, arith}
 use Rattle.reed_solomon.specs.Words.{at}
 use Rattle.std.proofs.lemmas.Bool.{eq-eqb, eqb-true, and_from}
 use Rattle.field.specs.Model.{FieldModel, inverse}

@@ -1,5 +1,5 @@
 -- The error's seats are roots of any polynomial that the checks do not tell from 0.
-use Rattle.std.proofs.Common.{◌≡◌, ℕ, zero, suc, ◌<◌, ◌≤◌, List, [], ◌∷◌, length, sym, ap, ◌∙◌, ap₂}
+use Rattle.std.proofs.Common.{◌≡◌, ℕ, suc, ◌<◌, ◌≤◌, List, [], ◌∷◌, length, sym, ap, ◌∙◌, ap₂}
 use Rattle.field.specs.Model.{FieldModel}
 use Rattle.field.specs.Laws.{FieldLaws}
 use Rattle.reed_solomon_theory.specs.Code.{Below, power, check}

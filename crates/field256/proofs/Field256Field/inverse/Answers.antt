@@ -1,4 +1,4 @@
-use Rattle.std.proofs.Common.{sym, ap, ◌∙◌, rules}
+use Rattle.std.proofs.Common.{rules}
 use Rattle.field256.specs.Tables.{antilogs, logs}
 use Rattle.field256.specs.Powers.{inverse_read}
 use Rattle.field256.proofs.Field256Field.inverse.Goals as goal

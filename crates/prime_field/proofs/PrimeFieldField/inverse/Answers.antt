@@ -1,7 +1,6 @@
-use Rattle.std.proofs.Common.{◌≡◌, ℕ, cond, Some, None, Option, sym, ap, ◌∙◌, arith}
+use Rattle.std.proofs.Common.{ℕ, cond, Some, None, Option, sym, ap, ◌∙◌, arith}
 use Rattle.std.proofs.lemmas.Bool.{ne_eqb}
-use Rattle.field.specs.Model.{as_code}
-use Rattle.field.specs.Defined.{defined_inv, defined_field}
+use Rattle.field.specs.Defined.{defined_inv}
 use Rattle.field_theory.proofs.Lawful.{prime_lawful}
 use Rattle.prime_field.proofs.Table.{inverses, inverse_entry}
 use Rattle.prime_field.proofs.Reckoning.{read_lt}

@@ -1,4 +1,4 @@
-use Rattle.std.proofs.Common.{◌≡◌, ◌-◌, ◌<◌, length, get_or, take, sym, ap, ◌∙◌, ap₂, arith, rules}
+use Rattle.std.proofs.Common.{◌≡◌, ◌<◌, length, get_or, take, sym, ap, ◌∙◌, ap₂, arith, rules}
 use Rattle.reed_solomon_theory.specs.Decode.{kill, shed_all, without}
 use Rattle.reed_solomon.specs.Words.{at}
 use Rattle.reed_solomon.proofs.Shedding.{next_same, next_other, shed_push, shed_same, kill_push, none_shed, none_killed, error_is}

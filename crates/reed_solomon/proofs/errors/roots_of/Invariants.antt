@@ -1,4 +1,4 @@
-use Rattle.std.proofs.Common.{◌≡◌, ◌+◌, ◌≤◌, ◌++◌, length, take}
+use Rattle.std.proofs.Common.{◌≡◌, ◌≤◌, ◌++◌, length, take}
 use Rattle.reed_solomon_theory.specs.Decode.{roots}
 use Rattle.reed_solomon.proofs.errors.roots_of.Given as goal
 

@@ -1,4 +1,4 @@
-use Rattle.std.proofs.Common.{◌-◌, ap, ◌∙◌, ap₂, arith}
+use Rattle.std.proofs.Common.{ap, ◌∙◌, ap₂, arith}
 use Rattle.reed_solomon_theory.specs.Elimination.{plus, cleared}
 use Rattle.reed_solomon_theory.proofs.Basis.{plus_by_places}
 use Rattle.reed_solomon.proofs.locator.cleared_row.Goals as goal
