@@ -1,15 +1,15 @@
 // The Euclidean plane over any field.
 #![tactic(auto)]
 
-ghost use Rattle.std.specs.Prelude.{◌≡◌, Ok, Err};
+ghost use Rattle.std.specs.Prelude.{◌≡◌, Ok, Err, IfOk, IfErr, OnOk};
 ghost use Rattle.geometry.specs.Limits.{standing as standing_of};
 ghost use Rattle.euclidean.specs.Formulas.{euclidean as euclidean_plane};
 ghost use Rattle.euclidean.specs.Plane.{IsEuclidean, OnlyEuclidean};
 ghost use Rattle.euclidean.specs.Laws.{is_euclidean};
 
 use field::{Field, difference};
-use geometry::{Geometry, standing};
-use radix::{pop_digit, push_digit, times, two_digits};
+use geometry::{Geometry, checked};
+use radix::{Base, times};
 use refusal::Refusal;
 
 // Point (x, y) is point q * x + y, and line [a, b] is line q * a + b, where q is the order of the field.
@@ -28,17 +28,23 @@ impl<F: Field> EuclideanPlane<F> {
     {
         EuclideanPlane { field }
     }
+
+    fn base(&self) -> Base
+        ensures { result.q ≡ (F.Field.model self.now.field).order }
+    {
+        Base::new(self.field.order())
+    }
 }
 
 impl<F: Field + Drop> EuclideanPlane<F> {
     // The plane over a field. Refused with number 1 if the order of the field is not listed, then with number 2 if it is above 16 or there are more than 5,000 edges.
     pub fn new(field: F) -> Result<Self, Refusal>
-        ensures answer { elim result [ Ok p ↦ (standing_of (euclidean_plane (F.Field.model field)) ≡ Ok tt) × (p.field ≡ field) | Err e ↦ standing_of (euclidean_plane (F.Field.model field)) ≡ Err e ] }
-        ensures meaning { elim result [ Ok p ↦ IsEuclidean (F.Field.model field) (euclidean_plane (F.Field.model p.field)) | Err e ↦ Unit {0} ] }
+        ensures ok { IfOk result (λ p. p.field ≡ field) }
+        ensures stands { OnOk result (standing_of (euclidean_plane (F.Field.model field)) ≡ Ok tt) }
+        ensures err { IfErr result (λ e. standing_of (euclidean_plane (F.Field.model field)) ≡ Err e) }
+        ensures meaning { IfOk result (λ p. IsEuclidean (F.Field.model field) (euclidean_plane (F.Field.model p.field))) }
     {
-        let plane = Self::over(field);
-        standing(&plane)?;
-        Ok(plane)
+        checked(Self::over(field))
     }
 }
 
@@ -52,7 +58,7 @@ impl<F: Field> Geometry for EuclideanPlane<F> {
     }
 
     fn points(&self) -> usize {
-        let q = self.field.order();
+        let q = self.order();
         times(q, q)
     }
 
@@ -69,31 +75,30 @@ impl<F: Field> Geometry for EuclideanPlane<F> {
     }
 
     fn edges(&self) -> usize {
-        let q = self.field.order();
-        times(times(q, q), q)
+        times(self.points(), self.order())
     }
 
     // Seat i of point (x, y) is on the line [i, y - i x], and is its seat x.
     fn edge_at(&self, point: usize, seat: usize) -> Option<usize> {
-        let q = self.field.order();
-        if point >= self.points() || seat >= q {
+        if point >= self.points() || seat >= self.point_degree() {
             return None;
         }
-        let (x, y) = two_digits(q, point);
+        let base = self.base();
+        let (x, y) = base.two_digits(point);
         let b = difference(&self.field, y, self.field.product(seat as u8, x));
-        let line = push_digit(q, seat, b);
-        Some(push_digit(q, line, x))
+        let line = base.push_digit(seat, b);
+        Some(base.push_digit(line, x))
     }
 
     // Seat x of line [a, b] has the point (x, a x + b), and is its seat a.
     fn point_of(&self, edge: usize) -> Option<(usize, usize)> {
-        let q = self.field.order();
         if edge >= self.edges() {
             return None;
         }
-        let (line, x) = pop_digit(q, edge);
-        let (a, b) = two_digits(q, line);
+        let base = self.base();
+        let (line, x) = base.pop_digit(edge);
+        let (a, b) = base.two_digits(line);
         let y = self.field.sum(self.field.product(a, x), b);
-        Some((push_digit(q, x as usize, y), a as usize))
+        Some((base.push_digit(x as usize, y), a as usize))
     }
 }

@@ -2,7 +2,7 @@
 // A geometry has points and lines, and an edge for each point with a line through it.
 #![tactic(auto)]
 
-ghost use Rattle.std.specs.Prelude.{◌≡◌};
+ghost use Rattle.std.specs.Prelude.{◌≡◌, Ok, Err, IfOk, IfErr, OnOk};
 ghost use Rattle.geometry.specs.Incidence.{OnePoint};
 ghost use Rattle.geometry.specs.Laws.{GeometryLaws};
 ghost use Rattle.geometry.specs.Limits.{fits as fits_limits, standing as standing_of};
@@ -88,4 +88,14 @@ pub fn standing<G: Geometry>(geometry: &G) -> Result<(), Refusal>
         return Err(Refusal::GeometrySize);
     }
     Ok(())
+}
+
+// The geometry, if calls take it. Every constructor that can refuse ends in this.
+pub fn checked<G: Geometry + Drop>(geometry: G) -> Result<G, Refusal>
+    ensures ok { IfOk result (λ g. g ≡ geometry) }
+    ensures stands { OnOk result (standing_of (G.Geometry.model geometry) ≡ Ok tt) }
+    ensures err { IfErr result (λ e. standing_of (G.Geometry.model geometry) ≡ Err e) }
+{
+    standing(&geometry)?;
+    Ok(geometry)
 }
