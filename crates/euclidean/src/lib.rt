@@ -28,12 +28,6 @@ impl<F: Field> EuclideanPlane<F> {
     {
         EuclideanPlane { field }
     }
-
-    fn base(&self) -> Base
-        ensures { result.q ≡ (F.Field.model self.now.field).order }
-    {
-        Base::new(self.field.order())
-    }
 }
 
 impl<F: Field + Drop> EuclideanPlane<F> {
@@ -83,7 +77,7 @@ impl<F: Field> Geometry for EuclideanPlane<F> {
         if point >= self.points() || seat >= self.point_degree() {
             return None;
         }
-        let base = self.base();
+        let base = Base::of(&self.field);
         let (x, y) = base.two_digits(point);
         let b = difference(&self.field, y, self.field.product(seat as u8, x));
         let line = base.push_digit(seat, b);
@@ -95,7 +89,7 @@ impl<F: Field> Geometry for EuclideanPlane<F> {
         if edge >= self.edges() {
             return None;
         }
-        let base = self.base();
+        let base = Base::of(&self.field);
         let (line, x) = base.pop_digit(edge);
         let (a, b) = base.two_digits(line);
         let y = self.field.sum(self.field.product(a, x), b);

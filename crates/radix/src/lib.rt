@@ -4,6 +4,8 @@
 ghost use Rattle.std.specs.Prelude.{◌≡◌, ℕ, ◌+◌, ◌*◌, ◌/◌, ◌%◌, ◌^◌, ◌<◌, ◌≤◌};
 ghost use Rattle.radix.specs.Digits.{first, second, third, number};
 
+use field::Field;
+
 mod base;
 
 pub use base::Base;
@@ -14,6 +16,13 @@ impl Base {
         ensures { result.q ≡ q }
     {
         Base { q }
+    }
+
+    // The order of a field.
+    pub fn of<F: Field>(field: &F) -> Base
+        ensures { result.q ≡ (F.Field.model field.now).order }
+    {
+        Base::new(field.order())
     }
 
     // The number with one digit more.
