@@ -8,8 +8,8 @@ use Rattle.field.specs.Laws.{FieldLaws}
 use Rattle.field.proofs.Ring.{zero_code, sum_cancel, prod_zero, zero_prod, zero_sum}
 use Rattle.field.proofs.Quotients.{shorten, times_quotient, over_zero, over_is}
 use Rattle.radix.proofs.Radix.{digits_rise}
-use Rattle.projective.specs.declared.Triple.{Triple}
-use Rattle.projective.specs.declared.Triple.TheVariants.{Affine, Ideal, Last}
+use Rattle.projective.specs.declared.triple.Triple.{Triple}
+use Rattle.projective.specs.declared.triple.Triple.TheVariants.{Affine, Ideal, Last}
 use Rattle.projective.specs.Triples.{Codes, x_of, y_of, z_of, number_of, inner}
 use Rattle.projective.specs.Formulas.{opposite, by_third, by_second, by_last, seat_of}
 use Rattle.projective.specs.TriplesLemmas.{affine_lt}
