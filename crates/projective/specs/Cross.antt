@@ -7,8 +7,8 @@ use Rattle.field.specs.Laws.{FieldLaws}
 use Rattle.field.proofs.Ring.{prod_zero, zero_prod, one_prod, minus_eq, sum_left_comm, prod_left_comm}
 use Rattle.field.proofs.Differences.{minus_back, sum_cancel_right}
 use Rattle.field.proofs.Quotients.{shorten}
-use Rattle.projective.specs.declared.Triple.{Triple}
-use Rattle.projective.specs.declared.Triple.TheVariants.{Affine, Ideal, Last}
+use Rattle.projective.specs.declared.triple.Triple.{Triple}
+use Rattle.projective.specs.declared.triple.Triple.TheVariants.{Affine, Ideal, Last}
 use Rattle.projective.specs.Triples.{Codes, x_of, y_of, z_of, inner, dot}
 
 -- the three coordinates

@@ -9,7 +9,7 @@ use Rattle.geometry.proofs.Derived.{on_in}
 use Rattle.geometry.proofs.Laid.{laid_lawful, laid_rising, on_inc, inc_on}
 use Rattle.geometry.proofs.Pinned.{pinned}
 use Rattle.geometry.proofs.Sides.{Side, LayoutLaws}
-use Rattle.projective.specs.declared.Triple.{Triple}
+use Rattle.projective.specs.declared.triple.Triple.{Triple}
 use Rattle.projective.specs.Triples.{Codes, x_of, y_of, z_of, number_of, dot}
 use Rattle.projective.specs.Plane.{IsProjective, OnlyProjective}
 use Rattle.projective.specs.Formulas.{triple_of, opposite, vertex_at, seat_between, projective, projective_layout}
@@ -56,6 +56,10 @@ module _ (φ : FieldModel) (laws : FieldLaws φ) where
   pub vertex_in : (v i : ℕ) → v < N → i < q + 1 → vertex_at φ v i < N
   vertex_in = side.at_in
 
+  -- a vertex has the triple that it was numbered from
+  pub triple_at : (v i : ℕ) → v < N → i < q + 1 → triple_of q (vertex_at φ v i) ≡ opposite φ (x_of (T v)) (y_of (T v)) (z_of (T v)) i
+  triple_at v i hv hi = triple_number q more _ (opp_codes v i hv hi)
+
   dot_comm : (s t : Triple) → dot φ s t ≡ dot φ t s
   dot_comm s t = ap₂ sum (ap₂ sum (prod_comm _ _) (prod_comm _ _)) (prod_comm _ _)
 
@@ -65,7 +69,7 @@ module _ (φ : FieldModel) (laws : FieldLaws φ) where
 
   by_points : Side N N (q + 1) Inc (vertex_at φ) (seat_between φ)
   by_points = record {
-    at_in = side.at_in;
+    at_in = vertex_in;
     at_inc = λ v i hv hi. dot_comm (T (vertex_at φ v i)) (T v) ∙ side.at_inc v i hv hi;
     at_rise = side.at_rise;
     seat_in = λ v w hv hw inc. side.seat_in v w hv hw (dot_comm (T v) (T w) ∙ inc);

@@ -1,5 +1,5 @@
 -- What stands at each seat of a vertex (a, b, c), and at which seat it stands.
-use Rattle.std.specs.Prelude.{◌≡◌, ℕ, ◌+◌, ◌*◌, ◌<◌, ◌≤◌, Bool, true, false, cond, ◌≢◌, ◌==◌}
+use Rattle.std.specs.Prelude.{◌≡◌, ℕ, ◌+◌, ◌*◌, ◌<◌, ◌≤◌, Bool, true, false, cond, ◌≢◌, ◌==◌, refl}
 use Rattle.std.proofs.Common.{sym, ap, ap₂, ◌∙◌, subst, arith, mul_comm}
 use Rattle.std.proofs.Math.Decide.{ℕ_discrete, dec_lt}
 use Rattle.std.proofs.lemmas.Bool.{lt-ltb, le-ltb, ne_eqb}
@@ -8,8 +8,8 @@ use Rattle.field.specs.Laws.{FieldLaws}
 use Rattle.field.proofs.Ring.{zero_code, sum_cancel, prod_zero, zero_prod, zero_sum}
 use Rattle.field.proofs.Quotients.{shorten, times_quotient, over_zero, over_is}
 use Rattle.radix.proofs.Radix.{digits_rise}
-use Rattle.projective.specs.declared.Triple.{Triple}
-use Rattle.projective.specs.declared.Triple.TheVariants.{Affine, Ideal, Last}
+use Rattle.projective.specs.declared.triple.Triple.{Triple}
+use Rattle.projective.specs.declared.triple.Triple.TheVariants.{Affine, Ideal, Last}
 use Rattle.projective.specs.Triples.{Codes, x_of, y_of, z_of, number_of, inner}
 use Rattle.projective.specs.Formulas.{opposite, by_third, by_second, by_last, seat_of}
 use Rattle.projective.specs.TriplesLemmas.{affine_lt}
@@ -42,10 +42,10 @@ module _ (φ : FieldModel) (laws : FieldLaws φ) where
 
   -- what stands at a seat i below q, and at seat q, where c is not 0, where only b is not 0, and where neither is
   low : (a b c i : ℕ) → i < q → opposite φ a b c i ≡ by_third φ a b i (over φ (neg (sum a (prod b i))) c)
-  low a b c i h = ap (λ t. cond t (by_third φ a b i (over φ (neg (sum a (prod b i))) c)) (by_last (over φ (neg b) c))) (lt-ltb i q h)
+  low a b c i h = rw (lt-ltb i q h) refl
 
   high : (a b c i : ℕ) → q ≤ i → opposite φ a b c i ≡ by_last (over φ (neg b) c)
-  high a b c i h = ap (λ t. cond t (by_third φ a b i (over φ (neg (sum a (prod b i))) c)) (by_last (over φ (neg b) c))) (le-ltb i q h)
+  high a b c i h = rw (le-ltb i q h) refl
 
   low_third : (a b c i : ℕ) → i < q → c < q → c ≢ 0 → opposite φ a b c i ≡ Affine i (prod (neg (sum a (prod b i))) (inv c))
   low_third a b c i h hc n = low a b c i h ∙ ap (by_third φ a b i) (over_is φ laws _ c hc n)

@@ -6,7 +6,7 @@ use Rattle.geometry.specs.Incidence.{On}
 use Rattle.geometry.specs.Laws.{GeometryLaws}
 use Rattle.geometry.specs.Seats.{Rising}
 use Rattle.geometry.specs.Agreement.{Agree}
-use Rattle.projective.specs.declared.Triple.{Triple}
+use Rattle.projective.specs.declared.triple.Triple.{Triple}
 use Rattle.projective.specs.Triples.{Codes, number_of, dot}
 
 -- Points (1, y, z), (0, 1, z) and (0, 0, 1) are points q y + z, q² + z and q² + q, and lines have the same triples and numbers.

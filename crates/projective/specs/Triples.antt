@@ -1,8 +1,8 @@
 -- Homogeneous coordinates. Points and lines of the projective plane are the triples (1, y, z), (0, 1, z) and (0, 0, 1).
 use Rattle.std.specs.Prelude.{ℕ, ◌+◌, ◌*◌, ◌<◌}
 use Rattle.field.specs.Model.{FieldModel}
-use Rattle.projective.specs.declared.Triple.{Triple}
-use Rattle.projective.specs.declared.Triple.TheVariants.{Affine, Ideal, Last}
+use Rattle.projective.specs.declared.triple.Triple.{Triple}
+use Rattle.projective.specs.declared.triple.Triple.TheVariants.{Affine, Ideal, Last}
 
 -- the first coordinate, the second and the third: Affine y z is (1, y, z), Ideal z is (0, 1, z), and Last is (0, 0, 1)
 abbrev pub x_of : Triple → ℕ

@@ -5,8 +5,8 @@ use Rattle.std.proofs.Math.Nat.{div-add-mod}
 use Rattle.std.proofs.Math.Arith.{digits_lt, digits_div, digits_mod}
 use Rattle.std.proofs.lemmas.Bool.{ltb-true, ltb-false, lt-ltb, le-ltb}
 use Rattle.radix.proofs.Radix.{flip, high_lt}
-use Rattle.projective.specs.declared.Triple.{Triple}
-use Rattle.projective.specs.declared.Triple.TheVariants.{Affine, Ideal, Last}
+use Rattle.projective.specs.declared.triple.Triple.{Triple}
+use Rattle.projective.specs.declared.triple.Triple.TheVariants.{Affine, Ideal, Last}
 use Rattle.projective.specs.Triples.{Codes, number_of, x_of, y_of, z_of}
 use Rattle.projective.specs.Formulas.{triple_of}
 
@@ -24,18 +24,16 @@ module _ (q : ℕ) (more : 1 < q) where
 
   pub triple_number : (t : Triple) → Codes q t → triple_of q (number_of q t) ≡ t
   triple_number (Affine y z) h =
-      ap (λ b. cond b (Affine ((q * y + z) / q) ((q * y + z) % q)) (cond (nat_lt (q * y + z) (q * q + q)) (Ideal (q * y + z - q * q)) Last)) (lt-ltb _ _ (affine_lt y z h.0 h.1))
-      ∙ ap₂ Affine (ap (λ n. n / q) (flip q y z) ∙ digits_div y h.1) (ap (λ n. n % q) (flip q y z) ∙ digits_mod y h.1)
+      rw (lt-ltb _ _ (affine_lt y z h.0 h.1))
+      (ap₂ Affine (ap (λ n. n / q) (flip q y z) ∙ digits_div y h.1) (ap (λ n. n % q) (flip q y z) ∙ digits_mod y h.1))
   triple_number (Ideal z) h =
       let over : q * q ≤ q * q + z = omega arith in
       let under : q * q + z < q * q + q = omega arith in
-      ap (λ b. cond b (Affine ((q * q + z) / q) ((q * q + z) % q)) (cond (nat_lt (q * q + z) (q * q + q)) (Ideal (q * q + z - q * q)) Last)) (le-ltb _ _ over)
-      ∙ ap (λ b. cond b (Ideal (q * q + z - q * q)) Last) (lt-ltb _ _ under) ∙ ap Ideal (omega arith)
+      rw (le-ltb _ _ over) (rw (lt-ltb _ _ under) (ap Ideal (omega arith)))
   triple_number Last h =
       let over : q * q ≤ q * q + q = omega arith in
       let same : q * q + q ≤ q * q + q = omega arith in
-      ap (λ b. cond b (Affine ((q * q + q) / q) ((q * q + q) % q)) (cond (nat_lt (q * q + q) (q * q + q)) (Ideal (q * q + q - q * q)) Last)) (le-ltb _ _ over)
-      ∙ ap (λ b. cond b (Ideal (q * q + q - q * q)) Last) (le-ltb _ _ same)
+      rw (le-ltb _ _ over) (rw (le-ltb _ _ same) refl)
 
   pub number_triple : (n : ℕ) → n < q * q + q + 1 → (number_of q (triple_of q n) ≡ n) × Codes q (triple_of q n)
   number_triple n h = go (nat_lt n (q * q)) (nat_lt n (q * q + q)) refl refl
