@@ -47,11 +47,11 @@ pub fn code_with(component: Component) -> Result<AnyCode, Refusal>
             size,
             checks,
         } => {
-            let field = AnyField::of_order(order)?;
+            let field = AnyField::try_from(order)?;
             Ok(AnyCode::ReedSolomon(ReedSolomon::over(field, size, checks)))
         }
         Component::Bch { size, radius } => {
-            let field = AnyField::of_order(2)?;
+            let field = AnyField::try_from(2)?;
             Ok(AnyCode::Bch(BchOverAny {
                 code: Bch::of(size, radius),
                 field,

@@ -1,7 +1,7 @@
 // A geometry of any kind over a field of any listed order, chosen at run time: an enum over the kinds, which is a geometry itself.
 #![tactic(auto)]
 
-ghost use Rattle.std.specs.Prelude.{◌≡◌, Ok, Err};
+ghost use Rattle.std.specs.Prelude.{◌≡◌, Ok, Err, IfOk, IfErr, OnOk};
 ghost use Rattle.field.specs.Defined.{defined_field};
 ghost use Rattle.geometry.specs.Limits.{standing as standing_of};
 ghost use Rattle.any_field.specs.Orders.{order_of};
@@ -11,13 +11,13 @@ ghost use Rattle.any_geometry.specs.Lawful.{geometry_lawful};
 use any_field::AnyField;
 use euclidean::EuclideanPlane;
 use field::Field;
-use geometry::{Geometry, Quadrangle, standing};
+use geometry::{Geometry, Quadrangle, checked};
 use projective::ProjectivePlane;
 use quadrangle::AffineQuadrangle;
 use refusal::Refusal;
 
 // The kinds of geometry.
-#[derive(Clone, Copy)]
+#[derive(Clone, Copy, PartialEq, Eq, Debug)]
 pub enum Kind {
     Euclidean,
     Projective,
@@ -29,6 +29,17 @@ pub enum AnyGeometry {
     Euclidean(EuclideanPlane<AnyField>),
     Projective(ProjectivePlane<AnyField>),
     Quadrangle(AffineQuadrangle<AnyField>),
+}
+
+// What the geometry answers, whatever its kind.
+macro_rules! ask {
+    ($any:expr, $geometry:ident => $answer:expr) => {
+        match $any {
+            AnyGeometry::Euclidean($geometry) => $answer,
+            AnyGeometry::Projective($geometry) => $answer,
+            AnyGeometry::Quadrangle($geometry) => $answer,
+        }
+    };
 }
 
 impl AnyGeometry {
@@ -61,76 +72,46 @@ impl Geometry for AnyGeometry {
     ghost lawful = { geometry_lawful };
 
     fn order(&self) -> usize {
-        match self {
-            AnyGeometry::Euclidean(g) => g.order(),
-            AnyGeometry::Projective(g) => g.order(),
-            AnyGeometry::Quadrangle(g) => g.order(),
-        }
+        ask!(self, geometry => geometry.order())
     }
 
     fn points(&self) -> usize {
-        match self {
-            AnyGeometry::Euclidean(g) => g.points(),
-            AnyGeometry::Projective(g) => g.points(),
-            AnyGeometry::Quadrangle(g) => g.points(),
-        }
+        ask!(self, geometry => geometry.points())
     }
 
     fn lines(&self) -> usize {
-        match self {
-            AnyGeometry::Euclidean(g) => g.lines(),
-            AnyGeometry::Projective(g) => g.lines(),
-            AnyGeometry::Quadrangle(g) => g.lines(),
-        }
+        ask!(self, geometry => geometry.lines())
     }
 
     fn point_degree(&self) -> usize {
-        match self {
-            AnyGeometry::Euclidean(g) => g.point_degree(),
-            AnyGeometry::Projective(g) => g.point_degree(),
-            AnyGeometry::Quadrangle(g) => g.point_degree(),
-        }
+        ask!(self, geometry => geometry.point_degree())
     }
 
     fn line_degree(&self) -> usize {
-        match self {
-            AnyGeometry::Euclidean(g) => g.line_degree(),
-            AnyGeometry::Projective(g) => g.line_degree(),
-            AnyGeometry::Quadrangle(g) => g.line_degree(),
-        }
+        ask!(self, geometry => geometry.line_degree())
     }
 
     fn edges(&self) -> usize {
-        match self {
-            AnyGeometry::Euclidean(g) => g.edges(),
-            AnyGeometry::Projective(g) => g.edges(),
-            AnyGeometry::Quadrangle(g) => g.edges(),
-        }
+        ask!(self, geometry => geometry.edges())
     }
 
     fn edge_at(&self, point: usize, seat: usize) -> Option<usize> {
-        match self {
-            AnyGeometry::Euclidean(g) => g.edge_at(point, seat),
-            AnyGeometry::Projective(g) => g.edge_at(point, seat),
-            AnyGeometry::Quadrangle(g) => g.edge_at(point, seat),
-        }
+        ask!(self, geometry => geometry.edge_at(point, seat))
     }
 
     fn point_of(&self, edge: usize) -> Option<(usize, usize)> {
-        match self {
-            AnyGeometry::Euclidean(g) => g.point_of(edge),
-            AnyGeometry::Projective(g) => g.point_of(edge),
-            AnyGeometry::Quadrangle(g) => g.point_of(edge),
-        }
+        ask!(self, geometry => geometry.point_of(edge))
     }
 }
 
 // The geometry of a kind over the field of an order. Refused with number 1 if the order is not listed, then with number 2
 // if it is above 16 or there are more than 5,000 edges.
 pub fn geometry_over(kind: Kind, order: usize) -> Result<AnyGeometry, Refusal>
-    ensures { elim result [ Ok g ↦ (kind_of g ≡ kind) × (geometry_of g ≡ kind_over kind (defined_field order)) × (standing_of (kind_over kind (defined_field order)) ≡ Ok tt) | Err e ↦ standing_of (kind_over kind (defined_field order)) ≡ Err e ] }
+    ensures same { IfOk result (λ g. kind_of g ≡ kind) }
+    ensures meaning { IfOk result (λ g. geometry_of g ≡ kind_over kind (defined_field order)) }
+    ensures stands { OnOk result (standing_of (kind_over kind (defined_field order)) ≡ Ok tt) }
+    ensures err { IfErr result (λ e. standing_of (kind_over kind (defined_field order)) ≡ Err e) }
 {
-    let made = AnyGeometry::over(kind, AnyField::of_order(order)?);
-    standing(&made)?;
-    Ok(made)
+    let field = AnyField::try_from(order)?;
+    checked(AnyGeometry::over(kind, field))
 }

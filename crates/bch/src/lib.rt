@@ -22,7 +22,7 @@ const CUBES: [u16; 16] = [0, 1, 8, 15, 12, 10, 1, 1, 10, 15, 15, 12, 8, 10, 8, 1
 fn field_of_two() -> PrimeField
     ensures { result.order ≡ 2 }
 {
-    match PrimeField::new(2) {
+    match PrimeField::try_from(2) {
         Ok(field) => field,
         Err(_) => unreachable(),
     }

@@ -1,9 +1,8 @@
 // Binary fields of order 4, 8 and 16: polynomials over two elements, modulo x² + x + 1, x³ + x + 1 and x⁴ + x + 1.
 #![tactic(auto)]
 
-ghost use Rattle.std.specs.Prelude.{◌≡◌, T, [], ◌∷◌, Ok, Err};
 ghost use Rattle.field.specs.Defined.{among, defined_field};
-ghost use Rattle.refusal.specs.declared.Refusal.TheVariants.{FieldOrder};
+ghost use Rattle.field.specs.Made.{MadeOrRefused};
 ghost use Rattle.binary_field.specs.Orders.{order_of, small_orders};
 ghost use Rattle.binary_field.specs.Tables;
 
@@ -11,18 +10,20 @@ use field::{Field, read_code};
 use refusal::Refusal;
 
 // A binary field, by its order.
-#[derive(Clone, Copy)]
+#[derive(Clone, Copy, PartialEq, Eq, Debug)]
 pub enum BinaryField {
     Of4,
     Of8,
     Of16,
 }
 
-impl BinaryField {
-    // The field of order 4, 8 or 16; any other order is refused.
-    pub fn new(order: usize) -> Result<BinaryField, Refusal>
-        ensures { elim result [ Ok f ↦ order_of f ≡ order | Err e ↦ (e ≡ FieldOrder) × (T (among order small_orders) → ⊥) ] }
-    {
+// The field of order 4, 8 or 16; any other order is refused.
+impl TryFrom<usize> for BinaryField {
+    type Error = Refusal;
+
+    ghost try_from_gives = { MadeOrRefused order_of (λ q. among q small_orders) };
+
+    fn try_from(order: usize) -> Result<BinaryField, Refusal> {
         match order {
             4 => Ok(BinaryField::Of4),
             8 => Ok(BinaryField::Of8),

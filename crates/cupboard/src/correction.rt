@@ -8,7 +8,7 @@ use reed_solomon::ReedSolomon;
 const WORD: [u8; 15] = [13, 1, 4, 7, 2, 11, 0, 9, 5, 3, 8, 5, 0, 2, 6];
 
 pub fn run(rt: &impl Print) -> anyhow::Result<()> {
-    let Ok(field) = BinaryField::new(16) else {
+    let Ok(field) = BinaryField::try_from(16) else {
         return Err(anyhow!("there is no field of order 16"));
     };
     let Ok(code) = ReedSolomon::new(field, 15, 4) else {

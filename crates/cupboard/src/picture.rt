@@ -6,7 +6,7 @@ use incidence::lies_on;
 use prime_field::PrimeField;
 
 pub fn run(rt: &impl Print) -> anyhow::Result<()> {
-    let Ok(field) = PrimeField::new(3) else {
+    let Ok(field) = PrimeField::try_from(3) else {
         return Err(anyhow!("there is no field of order 3"));
     };
     let Ok(plane) = EuclideanPlane::new(field) else {

@@ -3,3 +3,4 @@ pub mod Polynomials
 pub mod Defined
 pub mod Laws
 pub mod Sums
+pub mod Made

@@ -8,7 +8,7 @@ ghost use Rattle.field256.specs.Powers;
 use field::Field;
 
 // The field of order 256. Every byte is a code.
-#[derive(Clone, Copy)]
+#[derive(Clone, Copy, PartialEq, Eq, Debug)]
 pub struct Field256;
 
 impl Field for Field256 {

@@ -1,9 +1,8 @@
 // Prime fields: arithmetic modulo 2, 3, 5, 7, 11 or 13.
 #![tactic(auto)]
 
-ghost use Rattle.std.specs.Prelude.{◌≡◌, T, Ok, Err};
 ghost use Rattle.field.specs.Defined.{among, defined_field, prime_orders};
-ghost use Rattle.refusal.specs.declared.Refusal.TheVariants.{FieldOrder};
+ghost use Rattle.field.specs.Made.{MadeOrRefused};
 ghost use Rattle.field_theory.proofs.Lawful.{prime_lawful};
 
 use field::{Field, read_code};
@@ -13,11 +12,13 @@ mod kind;
 
 pub use kind::PrimeField;
 
-impl PrimeField {
-    // The field of a prime order that is listed; any other order is refused.
-    pub fn new(order: usize) -> Result<PrimeField, Refusal>
-        ensures { elim result [ Ok f ↦ f.order ≡ order | Err e ↦ (e ≡ FieldOrder) × (T (among order prime_orders) → ⊥) ] }
-    {
+// The field of a prime order that is listed; any other order is refused.
+impl TryFrom<usize> for PrimeField {
+    type Error = Refusal;
+
+    ghost try_from_gives = { MadeOrRefused (λ f. f.order) (λ q. among q prime_orders) };
+
+    fn try_from(order: usize) -> Result<PrimeField, Refusal> {
         match order {
             2 | 3 | 5 | 7 | 11 | 13 => Ok(PrimeField { order: order as u8 }),
             _ => Err(Refusal::FieldOrder),

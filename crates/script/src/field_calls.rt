@@ -11,7 +11,7 @@ use field::Field;
 pub fn answer(order: usize, operation: Operation) -> Answer
     ensures { result ≡ field_answer order operation }
 {
-    match AnyField::of_order(order) {
+    match AnyField::try_from(order) {
         Ok(field) => match operation {
             Operation::Sum(a, b) => Answer::Number(field.sum(a, b) as usize),
             Operation::Negative(a) => Answer::Number(field.negative(a) as usize),
