@@ -1,6 +1,8 @@
 -- The meaning of a component code chosen at run time.
-use Rattle.std.specs.Prelude.{ℕ}
-use Rattle.field.specs.Defined.{defined_field}
+use Rattle.std.specs.Prelude.{◌≡◌, ℕ, T, Result, MatchResult}
+use Rattle.refusal.specs.declared.Refusal.{Refusal}
+use Rattle.refusal.specs.declared.Refusal.TheVariants.{FieldOrder}
+use Rattle.field.specs.Defined.{defined_field, listed}
 use Rattle.component.specs.Model.{CodeModel}
 use Rattle.reed_solomon.specs.Model.{reed_solomon}
 use Rattle.bch.specs.Bch.{bch}
@@ -24,3 +26,7 @@ code_meant (Bch size radius) = bch size radius
 abbrev pub code_of : AnyCode → CodeModel
 code_of (ReedSolomonOf c) = reed_solomon (defined_field (order_of c.field)) c.size c.checks
 code_of (BchOf c) = bch c.code.size c.code.radius
+
+-- the code that the numbers mean, or a refusal where the order of its field is not listed
+abbrev pub IsCodeWith : Component → Result AnyCode Refusal → Type 0
+IsCodeWith n r = MatchResult r (λ c. code_of c ≡ code_meant n) (λ e. (e ≡ FieldOrder) × (T (listed (order_in n)) → ⊥))

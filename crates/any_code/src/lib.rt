@@ -1,10 +1,8 @@
 // A component code of any kind, chosen at run time: an enum over the kinds, which is a component code itself.
 #![tactic(auto)]
 
-ghost use Rattle.std.specs.Prelude.{◌≡◌, T, Ok, Err};
-ghost use Rattle.any_code.specs.Kinds.{code_meant, code_of, order_in};
-ghost use Rattle.field.specs.Defined.{listed};
-ghost use Rattle.refusal.specs.declared.Refusal.TheVariants.{FieldOrder};
+ghost use Rattle.std.specs.Prelude.{◌≡◌};
+ghost use Rattle.any_code.specs.Kinds.{IsCodeWith, code_of};
 ghost use Rattle.any_code.specs.Lawful.{code_lawful};
 
 use any_field::AnyField;
@@ -18,7 +16,7 @@ mod kind;
 pub use kind::BchOverAny;
 
 // A component code by its numbers, within its limits or not.
-#[derive(Clone, Copy)]
+#[derive(Clone, Copy, PartialEq, Eq, Debug)]
 pub enum Component {
     ReedSolomon {
         order: usize,
@@ -38,26 +36,37 @@ pub enum AnyCode {
 }
 
 // The code with these numbers. Refused with 1 if the order of its field is not listed; numbers outside the limits mean no code.
-pub fn code_with(component: Component) -> Result<AnyCode, Refusal>
-    ensures { elim result [ Ok c ↦ code_of c ≡ code_meant component | Err e ↦ (e ≡ FieldOrder) × (T (listed (order_in component)) → ⊥) ] }
-{
-    match component {
-        Component::ReedSolomon {
-            order,
-            size,
-            checks,
-        } => {
-            let field = AnyField::try_from(order)?;
-            Ok(AnyCode::ReedSolomon(ReedSolomon::over(field, size, checks)))
-        }
-        Component::Bch { size, radius } => {
-            let field = AnyField::try_from(2)?;
-            Ok(AnyCode::Bch(BchOverAny {
-                code: Bch::of(size, radius),
-                field,
-            }))
+impl TryFrom<Component> for AnyCode {
+    type Error = Refusal;
+
+    ghost try_from_gives = { IsCodeWith };
+
+    fn try_from(component: Component) -> Result<AnyCode, Refusal> {
+        match component {
+            Component::ReedSolomon {
+                order,
+                size,
+                checks,
+            } => {
+                let field = AnyField::try_from(order)?;
+                Ok(AnyCode::ReedSolomon(ReedSolomon::over(field, size, checks)))
+            }
+            Component::Bch { size, radius } => {
+                let field = AnyField::try_from(2)?;
+                Ok(AnyCode::Bch(BchOverAny {
+                    code: Bch::of(size, radius),
+                    field,
+                }))
+            }
         }
     }
+}
+
+// The same, by name.
+pub fn code_with(component: Component) -> Result<AnyCode, Refusal>
+    ensures { IsCodeWith component result }
+{
+    AnyCode::try_from(component)
 }
 
 impl ComponentCode for AnyCode {

@@ -9,9 +9,9 @@ use Rattle.field.proofs.Ring.{zero_prod}
 use Rattle.field_theory.proofs.Bits.{bit_high}
 use Rattle.field_theory.proofs.Lawful.{binary_field_lawful}
 use Rattle.bch.specs.Bch.{cube, power_bit}
-use Rattle.bch.specs.Columns.{column, NoSeat}
+use Rattle.bch.specs.Columns.{column}
 use Rattle.bch.specs.Two.{bit_zero}
-use Rattle.bch.specs.Table.{cubes, cube_entry, column_seat}
+use Rattle.bch.specs.Table.{cubes, cube_entry}
 
 laws : FieldLaws (defined_field 16)
 laws = binary_field_lawful 16 tt
@@ -55,6 +55,9 @@ bit_past j i h =
 pub bit_far : (j i : ℕ) → 5 ≤ j → 16 ≤ i → 0 ≡ power_bit j i
 bit_far j i h k = sym (third j i h ∙ ap (bit (j - 5)) (cube_far i k) ∙ bit_zero (j - 5))
 
+-- the cases of a coefficient
+pub ruleset power_bits = (bit_first, bit_low, bit_third, bit_past, bit_far)
+
 pub column_long : (t i : ℕ) → t ≡ 2 → i < 16 → 1 + 2 * i + 32 * get_or cubes i 0 ≡ column t i
 unfolding column
 column_long t i e h = ap (λ x. 1 + 2 * i + 32 * x) (cube_entry i h) ∙ sym (ap (λ x. 1 + 2 * i + x) (cond-true (eqb t 2) (32 * cube i) 0 (eq-eqb t 2 e)))
@@ -63,8 +66,5 @@ pub column_short : (t i : ℕ) → t ≢ 2 → 1 + 2 * i ≡ column t i
 unfolding column
 column_short t i d = let z = cond-false (eqb t 2) (32 * cube i) 0 (ne_eqb t 2 d) in omega arith
 
--- the seat that the locator bits of a sum name is the only one that can have it for its column
-pub no_seat : (t s n : ℕ) → n ≤ 16 → (s / 2 % 16 < n → column t (s / 2 % 16) ≢ s) → NoSeat t s n
-no_seat t s n h d a l e =
-    let m : s / 2 % 16 ≡ a = ap (λ x. x / 2 % 16) (sym e) ∙ column_seat t a (omega arith) in
-    d (omega arith) (ap (column t) m ∙ e)
+-- the cases of a column
+pub ruleset columns = (column_long, column_short)

@@ -115,34 +115,30 @@ module _ (n t : ℕ) (xs : List ℕ) (over : over_field (bch n t) xs ≡ true) w
       go (yes e) = absurd (nz (ap (λ m. column_sum (column t) m (at xs)) e))
       go (no d) = omega arith
 
-  -- by the sum that the code has worked out
-  module _ (r : ℕ) (is : r ≡ syndrome t xs) where
-    pub settle_stays : r ≡ 0 → decoded (bch n t) xs ≡ Some xs
-    unfolding is_word
-    settle_stays z = go (within_limits n t) refl over
-      where
-        go : (b : Bool) → within_limits n t ≡ b → over_field (code_if b n t) xs ≡ true → decoded (code_if b n t) xs ≡ Some xs
-        go true e h =
-            let q = word_size true n t xs h in
-            let p = limits n t e in
-            stays n t p.0 p.1 xs q (word_bits true n t xs h) (ap (λ m. column_sum (column t) m (at xs)) (sym q) ∙ sym is ∙ z)
-        go false e h = decoded_only (code_if false n t) (no_code_laws n t) xs xs (and_from (over_field (code_if false n t) xs) true h refl) (lit≤ tt)
+  -- by the sum that the code works out
+  pub settle_stays : syndrome t xs ≡ 0 → decoded (bch n t) xs ≡ Some xs
+  unfolding is_word
+  settle_stays z = go (within_limits n t) refl over
+    where
+      go : (b : Bool) → within_limits n t ≡ b → over_field (code_if b n t) xs ≡ true → decoded (code_if b n t) xs ≡ Some xs
+      go true e h =
+          let q = word_size true n t xs h in
+          let p = limits n t e in
+          stays n t p.0 p.1 xs q (word_bits true n t xs h) (ap (λ m. column_sum (column t) m (at xs)) (sym q) ∙ z)
+      go false e h = decoded_only (code_if false n t) (no_code_laws n t) xs xs (and_from (over_field (code_if false n t) xs) true h refl) (lit≤ tt)
 
-    pub settle_one : (a : ℕ) → a < length xs → column t a ≡ r → decoded (bch n t) xs ≡ Some (flipped a xs)
-    settle_one a l e = by_limits (Some (flipped a xs)) (omega arith) (λ small ok bits. one (length xs) t small ok xs refl bits a l (e ∙ is))
+  pub settle_one : (a : ℕ) → a < length xs → column t a ≡ syndrome t xs → decoded (bch n t) xs ≡ Some (flipped a xs)
+  settle_one a l e = by_limits (Some (flipped a xs)) (omega arith) (λ small ok bits. one (length xs) t small ok xs refl bits a l e)
 
-    pub settle_two : (a b : ℕ) → t ≡ 2 → a < b → b < length xs → column t a ≡ bit_xor r (column t b) → decoded (bch n t) xs ≡ Some (flipped b (flipped a xs))
-    settle_two a b two_of l k e =
-        by_limits (Some (flipped b (flipped a xs))) (omega arith)
-        (λ small ok bits. two (length xs) t small ok xs refl bits a b two_of (omega arith) k (e ∙ ap (λ x. bit_xor x (column t b)) is))
+  pub settle_two : (a b : ℕ) → t ≡ 2 → a < b → b < length xs → column t a ≡ bit_xor (syndrome t xs) (column t b) → decoded (bch n t) xs ≡ Some (flipped b (flipped a xs))
+  settle_two a b two_of l k e =
+      by_limits (Some (flipped b (flipped a xs))) (omega arith) (λ small ok bits. two (length xs) t small ok xs refl bits a b two_of (omega arith) k e)
 
-    pub refuse_one : t ≢ 2 → r ≢ 0 → NoSeat t r (length xs) → decoded (bch n t) xs ≡ None
-    refuse_one d nz h =
-        by_limits None (some_seat (λ z. nz (is ∙ z)))
-        (λ small ok bits. none_1 (length xs) t small ok xs refl bits d (λ z. nz (is ∙ z)) (subst (λ (s : ℕ). NoSeat t s (length xs)) is h))
+  pub refuse_one : t ≢ 2 → syndrome t xs ≢ 0 → NoSeat t (syndrome t xs) (length xs) → decoded (bch n t) xs ≡ None
+  refuse_one d nz h = by_limits None (some_seat nz) (λ small ok bits. none_1 (length xs) t small ok xs refl bits d nz h)
 
-    pub refuse_two : t ≡ 2 → r ≢ 0 → NoSeat t r (length xs) → NoPair t r (length xs) → decoded (bch n t) xs ≡ None
-    refuse_two two_of nz h p =
-        by_limits None (some_seat (λ z. nz (is ∙ z)))
-        (λ small ok bits. none_2 (length xs) t small ok xs refl bits two_of (λ z. nz (is ∙ z))
-        (subst (λ (s : ℕ). NoSeat t s (length xs)) is h) (subst (λ (s : ℕ). NoPair t s (length xs)) is p))
+  pub refuse_two : t ≡ 2 → syndrome t xs ≢ 0 → NoSeat t (syndrome t xs) (length xs) → NoPair t (syndrome t xs) (length xs) → decoded (bch n t) xs ≡ None
+  refuse_two two_of nz h p = by_limits None (some_seat nz) (λ small ok bits. none_2 (length xs) t small ok xs refl bits two_of nz h p)
+
+-- the ends of the decoder
+pub ruleset settles = (settle_stays, settle_one, settle_two, refuse_one, refuse_two)

@@ -1,3 +1,4 @@
+pub mod Search
 pub mod Flips
 pub mod Decoder
 pub mod Coefficients

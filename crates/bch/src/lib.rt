@@ -1,7 +1,7 @@
 // Extended binary BCH codes: symbols in the field of 2, locators in the field of 16, 1 to 16 seats, radius 1 or 2.
 #![tactic(auto)]
 
-ghost use Rattle.std.specs.Prelude.{◌≡◌, ◌<◌, ◌≤◌, true, false, length, Some, None, Ok, Err, bit_xor};
+ghost use Rattle.std.specs.Prelude.{◌≡◌, ◌<◌, ◌≤◌, ◌↔◌, true, length, IsOk, IfOk, IfErr, IfSome, IfNone, bit_xor};
 ghost use Rattle.bch.specs.Bch.{bch, power_bit, within_limits};
 ghost use Rattle.bch.specs.Columns.{NoPair, NoSeat, column, flipped, syndrome};
 ghost use Rattle.refusal.specs.declared.Refusal.TheVariants.{CodeLimits};
@@ -22,10 +22,7 @@ const CUBES: [u16; 16] = [0, 1, 8, 15, 12, 10, 1, 1, 10, 15, 15, 12, 8, 10, 8, 1
 fn field_of_two() -> PrimeField
     ensures { result.order ≡ 2 }
 {
-    match PrimeField::try_from(2) {
-        Ok(field) => field,
-        Err(_) => unreachable(),
-    }
+    PrimeField::try_from(2).unwrap()
 }
 
 // Whether there is a code of this size and radius.
@@ -38,7 +35,8 @@ fn within_limits(size: usize, radius: usize) -> bool
 impl Bch {
     // The code of this size and radius. Outside the limits it has no seats and no checks, and does not fit.
     pub fn of(size: usize, radius: usize) -> Bch
-        ensures { (result.size ≡ size) × (result.radius ≡ radius) }
+        ensures size { result.size ≡ size }
+        ensures radius { result.radius ≡ radius }
     {
         Bch {
             field: field_of_two(),
@@ -49,10 +47,10 @@ impl Bch {
 
     // The same, refused with 3 outside the limits.
     pub fn new(size: usize, radius: usize) -> Result<Bch, Refusal>
-        ensures { elim result [
-          | Ok c ↦ (within_limits size radius ≡ true) × (c.size ≡ size) × (c.radius ≡ radius)
-          | Err e ↦ (within_limits size radius ≡ false) × (e ≡ CodeLimits)
-        ] }
+        ensures within { IsOk result ↔ (within_limits size radius ≡ true) }
+        ensures size { IfOk result (λ c. c.size ≡ size) }
+        ensures radius { IfOk result (λ c. c.radius ≡ radius) }
+        ensures refused { IfErr result (λ e. e ≡ CodeLimits) }
     {
         if within_limits(size, radius) {
             Ok(Bch::of(size, radius))
@@ -63,75 +61,76 @@ impl Bch {
 }
 
 // The coefficient of a check at a seat: 1, then the bits of the locator, then those of its third power.
+#[tactic(auto, using(crate::proofs::Coefficients::power_bits), unfolding(crate::specs::Table::cubes))]
 fn power_bit(check: usize, seat: usize) -> u8
     ensures { result ≡ power_bit check seat }
 {
-    if check == 0 {
-        1
-    } else if check < 5 {
-        ((seat >> (check - 1)) % 2) as u8
-    } else if check < 9 && seat < 16 {
-        ((CUBES[seat] >> (check - 5)) % 2) as u8
-    } else {
-        0
+    match check {
+        0 => 1,
+        1..=4 => ((seat >> (check - 1)) % 2) as u8,
+        5..=8 if seat < 16 => ((CUBES[seat] >> (check - 5)) % 2) as u8,
+        _ => 0,
     }
 }
 
-// The coefficients of all checks of a code of this radius at a seat: bit j is that of check j.
-fn column(radius: usize, seat: usize) -> u16
-    requires { seat < 16 }
-    ensures { result ≡ column radius seat }
-{
-    let low = 1 + 2 * seat as u16;
-    if radius == 2 {
-        low + 32 * CUBES[seat]
-    } else {
-        low
-    }
-}
-
-// The sums of all checks over a word: bit j is that of check j.
-fn syndrome(radius: usize, word: &[u8]) -> u16
-    requires { length word.now ≤ 16 }
-    ensures { result ≡ syndrome radius word.now }
-{
-    let mut total = 0;
-    for (seat, symbol) in word.iter().enumerate() {
-        if *symbol != 0 {
-            total ^= column(radius, seat);
+// What the decoder works out.
+impl Bch {
+    // The coefficients of all checks at a seat: bit j is that of check j.
+    #[tactic(auto, using(crate::proofs::Coefficients::columns), unfolding(crate::specs::Table::cubes))]
+    fn column(&self, seat: usize) -> u16
+        requires { seat < 16 }
+        ensures { result ≡ column self.now.radius seat }
+    {
+        let low = 1 + 2 * seat as u16;
+        if self.radius == 2 {
+            low + 32 * CUBES[seat]
+        } else {
+            low
         }
     }
-    total
-}
 
-// The seat below the limit that has this column.
-fn seat_with(radius: usize, sum: u16, limit: usize) -> Option<usize>
-    requires { limit ≤ 16 }
-    ensures { elim result [ Some a ↦ (a < limit) × (column radius a ≡ sum) | None ↦ NoSeat radius sum limit ] }
-{
-    // the bits of the locator follow that of power 0
-    let seat = (sum / 2 % 16) as usize;
-    if seat < limit && column(radius, seat) == sum {
-        Some(seat)
-    } else {
-        None
+    // The sums of all checks over a word: bit j is that of check j.
+    fn syndrome(&self, word: &[u8]) -> u16
+        requires { length word.now ≤ 16 }
+        ensures { result ≡ syndrome self.now.radius word.now }
+    {
+        let mut total = 0;
+        for (seat, symbol) in word.iter().enumerate() {
+            if *symbol != 0 {
+                total ^= self.column(seat);
+            }
+        }
+        total
     }
-}
 
-// Two seats below the limit whose columns have this sum.
-fn pair_with(radius: usize, sum: u16, limit: usize) -> Option<(usize, usize)>
-    requires { limit ≤ 16 }
-    ensures { elim result [
-      | Some p ↦ (p.0 < p.1) × (p.1 < limit) × (column radius p.0 ≡ bit_xor sum (column radius p.1))
-      | None ↦ NoPair radius sum limit
-    ] }
-{
-    for last in 0..limit {
-        if let Some(first) = seat_with(radius, sum ^ column(radius, last), last) {
-            return Some((first, last));
+    // The seat below the limit that has this column.
+    #[tactic(auto, using(crate::specs::Table::column_seat))]
+    fn seat_with(&self, sum: u16, limit: usize) -> Option<usize>
+        requires { limit ≤ 16 }
+        ensures found { IfSome result (λ a. (a < limit) × (column self.now.radius a ≡ sum)) }
+        ensures none { IfNone result (NoSeat self.now.radius sum limit) }
+    {
+        // the bits of the locator follow that of power 0
+        let seat = (sum / 2 % 16) as usize;
+        if seat < limit && self.column(seat) == sum {
+            Some(seat)
+        } else {
+            None
         }
     }
-    None
+
+    // Two seats below the limit whose columns have this sum.
+    fn pair_with(&self, sum: u16, limit: usize) -> Option<(usize, usize)>
+        requires { limit ≤ 16 }
+        ensures found { IfSome result (λ p.
+            (p.0 < p.1) × (p.1 < limit) × (column self.now.radius p.0 ≡ bit_xor sum (column self.now.radius p.1))) }
+        ensures none { IfNone result (NoPair self.now.radius sum limit) }
+    {
+        (0..limit).find_map(|last| {
+            let first = self.seat_with(sum ^ self.column(last), last)?;
+            Some((first, last))
+        })
+    }
 }
 
 // Turns the bit at a seat.
@@ -178,19 +177,20 @@ impl ComponentCode for Bch {
     }
 
     // The wrong seats are found by the sum of their columns.
+    #[tactic(auto, using(crate::proofs::Decoder::settles))]
     fn settle(&self, word: &mut [u8]) -> Decoding {
-        let sum = syndrome(self.radius, word);
+        let sum = self.syndrome(word);
         if sum == 0 {
             return Decoding::Settled;
         }
-        if let Some(seat) = seat_with(self.radius, sum, word.len()) {
+        if let Some(seat) = self.seat_with(sum, word.len()) {
             flip(word, seat);
             return Decoding::Settled;
         }
         if self.radius != 2 {
             return Decoding::Refused;
         }
-        let Some((first, last)) = pair_with(self.radius, sum, word.len()) else {
+        let Some((first, last)) = self.pair_with(sum, word.len()) else {
             return Decoding::Refused;
         };
         flip(word, first);

@@ -1,3 +1,4 @@
 pub mod Model
 pub mod Decoding
+pub mod Checks
 pub mod Calls

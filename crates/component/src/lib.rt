@@ -2,7 +2,8 @@
 #![tactic(auto)]
 
 ghost use Rattle.std.specs.Prelude.{◌≡◌, ℕ, ◌<◌, true, length};
-ghost use Rattle.component.specs.Calls.{decode_answer, decode_left, first_no_code, how_decoded};
+ghost use Rattle.component.specs.Calls.{decode_answer, decode_left, how_decoded};
+ghost use Rattle.component.specs.Checks.{admitted, first_no_code, word_standing};
 ghost use Rattle.component.specs.Decoding.{DecodedNear, DecodedOnly, RefusedFar, decoded, settled};
 ghost use Rattle.component.specs.Model.{CodeLaws, CodeModel, over_field};
 
@@ -58,19 +59,27 @@ pub trait ComponentCode {
 pub fn first_no_code(order: usize, word: &[u8]) -> Option<usize>
     ensures { result ≡ first_no_code order word.now }
 {
-    for (place, symbol) in word.iter().enumerate() {
-        if *symbol as usize >= order {
-            return Some(place);
-        }
-    }
-    None
+    word.iter().position(|symbol| *symbol as usize >= order)
 }
 
-// Decodes a word: it becomes the code word that differs from it in at most the radius, if there is one, and stays otherwise.
-// Refused with 1, 3, 9 or 10, and then the word stays too.
-pub fn decode<C: ComponentCode>(code: &C, word: &mut [u8]) -> Result<Decoding, Refusal>
-    ensures answer { result ≡ decode_answer (C.ComponentCode.model code.now) word.old }
-    ensures after { word.new ≡ decode_left (C.ComponentCode.model code.now) word.old }
+// The checks of a word of this length over a field of this order: refused with 9 if it has another length, and with 10 for
+// the first place whose symbol is no code.
+#[tactic(auto, unfolding(crate::specs::Checks::word_standing))]
+pub fn check_word(order: usize, length: usize, word: &[u8]) -> Result<(), Refusal>
+    ensures { result ≡ word_standing order length word.now }
+{
+    if word.len() != length {
+        return Err(Refusal::BufferLength);
+    }
+    match first_no_code(order, word) {
+        Some(place) => Err(Refusal::NotACode { place }),
+        None => Ok(()),
+    }
+}
+
+// The checks of a call of decoding.
+fn admit<C: ComponentCode>(code: &C, word: &[u8]) -> Result<(), Refusal>
+    ensures { result ≡ admitted (C.ComponentCode.model code.now) word.now }
 {
     let order = code.field().order();
     if !is_listed(order) {
@@ -79,12 +88,17 @@ pub fn decode<C: ComponentCode>(code: &C, word: &mut [u8]) -> Result<Decoding, R
     if !code.fits() {
         return Err(Refusal::CodeLimits);
     }
-    if word.len() != code.length() {
-        return Err(Refusal::BufferLength);
-    }
-    if let Some(place) = first_no_code(order, word) {
-        return Err(Refusal::NotACode { place });
-    }
+    check_word(order, code.length(), word)
+}
+
+// Decodes a word: it becomes the code word that differs from it in at most the radius, if there is one, and stays otherwise.
+// Refused with 1, 3, 9 or 10, and then the word stays too.
+#[tactic(auto, using(crate::proofs::Words::over_from))]
+pub fn decode<C: ComponentCode>(code: &C, word: &mut [u8]) -> Result<Decoding, Refusal>
+    ensures answer { result ≡ decode_answer (C.ComponentCode.model code.now) word.old }
+    ensures after { word.new ≡ decode_left (C.ComponentCode.model code.now) word.old }
+{
+    admit(code, word)?;
     Ok(code.settle(word))
 }
 

@@ -9,7 +9,6 @@ ghost use Rattle.graph_code.specs.Rounds.{after_round, counted};
 ghost use Rattle.graph_code.specs.Sides.{side as side_of};
 ghost use Rattle.graph_code.specs.Words.{NoneFails, first_failing};
 
-use component::first_no_code;
 use refusal::{Refusal, Vertex};
 
 mod side;
@@ -49,13 +48,15 @@ pub trait GraphCode {
 pub fn check_word<C: GraphCode>(code: &C, word: &[u8]) -> Result<(), Refusal>
     ensures { result ≡ word_standing (C.GraphCode.model code.now) word.now }
 {
-    if word.len() != code.symbols() {
-        return Err(Refusal::BufferLength);
-    }
-    match first_no_code(code.order(), word) {
-        Some(place) => Err(Refusal::NotACode { place }),
-        None => Ok(()),
-    }
+    component::check_word(code.order(), code.symbols(), word)
+}
+
+// The checks of a call with a graph code and a word.
+fn admit<C: GraphCode>(code: &C, word: &[u8]) -> Result<(), Refusal>
+    ensures { result ≡ admitted (C.GraphCode.model code.now) word.now }
+{
+    code.standing()?;
+    check_word(code, word)
 }
 
 // The word test: the first vertex at which the word fails, points before lines, or none if it passes everywhere.
@@ -63,8 +64,7 @@ pub fn check_word<C: GraphCode>(code: &C, word: &[u8]) -> Result<(), Refusal>
 pub fn first_failing<C: GraphCode>(code: &C, word: &[u8]) -> Result<Option<Vertex>, Refusal>
     ensures { result ≡ test_answer (C.GraphCode.model code.now) word.now }
 {
-    code.standing()?;
-    check_word(code, word)?;
+    admit(code, word)?;
     code.failing(word)
 }
 
@@ -74,8 +74,7 @@ pub fn half_round<C: GraphCode>(code: &C, side: Side, word: &mut [u8]) -> Result
     ensures answer { result ≡ round_answer (C.GraphCode.model code.now) side word.old }
     ensures after { word.new ≡ round_left (C.GraphCode.model code.now) side word.old }
 {
-    code.standing()?;
-    check_word(code, word)?;
+    admit(code, word)?;
     code.settle_side(side, word)
 }
 

@@ -1,8 +1,8 @@
 use Rattle.std.proofs.Common.{ℕ, get_or, refl, ◌∙◌}
 use Rattle.bch.specs.Columns.{column, column_sum}
 use Rattle.bch.specs.Sums.{more_zero, more_one}
-use Rattle.bch.proofs.syndrome.Goals as goal
-use Rattle.bch.proofs.syndrome.Goals.{then-symbol-ne0, else-symbol-ne0}
+use Rattle.bch.proofs.kind.Bch.syndrome.Goals as goal
+use Rattle.bch.proofs.kind.Bch.syndrome.Goals.{then-symbol-ne0, else-symbol-ne0}
 
 pub loop-seat-init : goal.loop-seat-init
 unfolding column_sum
@@ -10,7 +10,7 @@ loop-seat-init c = refl
 
 pub loop-seat-preserved : goal.loop-seat-preserved
 loop-seat-preserved c =
-    let col = column c.args.radius in
+    let col = column c.args.self.now.radius in
     let n = c.loop-seat.seat in
     let w = λ (i : ℕ). get_or c.args.word.now i 0 in
     elim c.if-symbol-ne0.branch [
