@@ -1,64 +1,57 @@
 // A Reed-Solomon word of 15 symbols over the field of 16, spoiled and put right, or refused.
-use anyhow::anyhow;
 use binary_field::BinaryField;
 use component::{ComponentCode, Decoding, decode};
 use reed_solomon::ReedSolomon;
+use std::fmt;
 
 // A code word.
 const WORD: [u8; 15] = [13, 1, 4, 7, 2, 11, 0, 9, 5, 3, 8, 5, 0, 2, 6];
 
-pub fn run(rt: &impl Print) -> anyhow::Result<()> {
-    let Ok(field) = BinaryField::try_from(16) else {
-        return Err(anyhow!("there is no field of order 16"));
-    };
-    let Ok(code) = ReedSolomon::new(field, 15, 4) else {
-        return Err(anyhow!("there is no such code"));
-    };
-    println!(rt; "A Reed-Solomon code over the field of 16: 15 symbols, 4 checks, radius 2.")?;
-    attempt(rt, &code, "A code word, as it is.", WORD)?;
-    let mut word = WORD;
-    word[0] = 6;
-    word[9] = 12;
-    attempt(
-        rt,
-        &code,
-        "Two symbols are spoiled, at seats 0 and 9.",
-        word,
-    )?;
-    let mut word = WORD;
-    word[2] = 13;
-    word[5] = 8;
-    word[11] = 11;
-    attempt(
-        rt,
-        &code,
-        "Three symbols are spoiled, at seats 2, 5 and 11.",
-        word,
-    )
+// The code word, spoiled at no seat, at two and at three.
+const CASES: [Case; 3] = [
+    Case {
+        title: "A code word, as it is.",
+        came: WORD,
+    },
+    Case {
+        title: "Two symbols are spoiled, at seats 0 and 9.",
+        came: [6, 1, 4, 7, 2, 11, 0, 9, 5, 12, 8, 5, 0, 2, 6],
+    },
+    Case {
+        title: "Three symbols are spoiled, at seats 2, 5 and 11.",
+        came: [13, 1, 13, 7, 2, 8, 0, 9, 5, 3, 8, 11, 0, 2, 6],
+    },
+];
+
+struct Case {
+    title: &'static str,
+    // the word that came
+    came: [u8; 15],
 }
 
-// Decodes a word that came, and shows what became of it.
-fn attempt<C: ComponentCode>(
-    rt: &impl Print,
-    code: &C,
-    title: &str,
-    came: [u8; 15],
-) -> anyhow::Result<()> {
-    println!(rt; "\n{title}")?;
-    show(rt, "came  ", &came)?;
-    let mut word = came;
+pub fn run(rt: &impl Print) -> anyhow::Result<()> {
+    let code = ReedSolomon::new(BinaryField::try_from(16)?, 15, 4)?;
+    println!(rt; "A Reed-Solomon code over the field of 16: 15 symbols, 4 checks, radius 2.")?;
+    for case in &CASES {
+        attempt(rt, &code, case)?;
+    }
+    Ok(())
+}
+
+// Decodes the word that came, and shows what became of it.
+fn attempt<C: ComponentCode>(rt: &impl Print, code: &C, case: &Case) -> anyhow::Result<()> {
+    println!(rt; "\n{}", case.title)?;
+    println!(rt; "  came  {}", Symbols(&case.came))?;
+    let mut word = case.came;
     match decode(code, &mut word) {
         Ok(Decoding::Settled) => println!(rt; "  decoded: a code word lies within the radius")?,
         Ok(Decoding::Refused) => println!(rt; "  refused: no code word lies within the radius")?,
-        Err(refusal) => {
-            let number = refusal.number();
-            println!(rt; "  refused with number {number}")?;
-        }
+        Err(refusal) => println!(rt; "  refused with number {}", refusal.number())?,
     }
-    show(rt, "now   ", &word)?;
+    println!(rt; "  now   {}", Symbols(&word))?;
     if word == WORD {
         println!(rt; "  The word is as it was.")?;
-    } else if word == came {
+    } else if word == case.came {
         println!(rt; "  The word is left as it came.")?;
     } else {
         println!(rt; "  The word is neither as it was nor as it came.")?;
@@ -66,11 +59,15 @@ fn attempt<C: ComponentCode>(
     Ok(())
 }
 
-fn show(rt: &impl Print, name: &str, word: &[u8]) -> anyhow::Result<()> {
-    print!(rt; "  {name}")?;
-    for symbol in word {
-        print!(rt; " {symbol:>2}")?;
+// The symbols of a word, in columns.
+#[derive(Clone, Copy)]
+struct Symbols<'a>(&'a [u8]);
+
+impl<'a> fmt::Display for Symbols<'a> {
+    fn fmt<W: fmt::Write>(&self, f: &mut fmt::Formatter<W>) -> fmt::Result {
+        for symbol in self.0 {
+            write!(f, " {symbol:>2}")?;
+        }
+        Ok(())
     }
-    println!(rt; "")?;
-    Ok(())
 }

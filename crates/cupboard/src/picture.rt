@@ -1,17 +1,11 @@
 // The incidence table of a small plane, points against lines.
-use anyhow::anyhow;
 use euclidean::EuclideanPlane;
 use geometry::Geometry;
 use incidence::lies_on;
 use prime_field::PrimeField;
 
 pub fn run(rt: &impl Print) -> anyhow::Result<()> {
-    let Ok(field) = PrimeField::try_from(3) else {
-        return Err(anyhow!("there is no field of order 3"));
-    };
-    let Ok(plane) = EuclideanPlane::new(field) else {
-        return Err(anyhow!("there is no plane over the field of order 3"));
-    };
+    let plane = EuclideanPlane::new(PrimeField::try_from(3)?)?;
     println!(rt;
         "\nThe Euclidean plane of order 3: a row for each point, a column for each line, # where the point is on the line."
     )?;

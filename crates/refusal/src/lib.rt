@@ -4,6 +4,8 @@
 ghost use Rattle.std.specs.Prelude.{◌≡◌};
 ghost use Rattle.refusal.specs.Numbers.{number};
 
+mod texts;
+
 // A vertex of a geometry, by its number among the points or the lines.
 #[derive(Clone, Copy, PartialEq, Eq, Debug)]
 pub enum Vertex {

@@ -1,68 +1,76 @@
-// Answers, printed.
-use crate::reading::Request;
+// What a line is answered, and how the answer is written.
+use crate::bytes;
+use crate::line_error::LineError;
+use crate::reading::{call, checks_call, decode_call};
+use crate::words::Words;
 use any_code::{AnyCode, Component, code_with};
 use component::{ComponentCode, Decoding};
 use refusal::Refusal;
-use script::{Answer, Reading, decode};
-use std::io;
+use script::{Failure, Value, decode};
+use std::alloc::Global;
+use std::fmt;
 
-// Prints the answer to a request.
-pub fn answer(rt: &impl Print, request: Request) -> io::Result<()> {
-    match request {
-        Request::Plain(call) => say(rt, script::to(Reading::Asks(call))),
-        Request::Decode { component, word } => decoded(rt, component, word),
-        Request::Checks(component) => checks(rt, component),
-        Request::Unreadable => say(rt, script::to(Reading::Unreadable)),
+// The answer to a call that is accepted.
+#[derive(Drop)]
+pub enum Answer {
+    // what a field or a geometry finds, which may be nothing
+    Found(Option<Value>),
+    // the code word within the radius, if there is one
+    Decoded(Option<Vec<u8>>),
+    // the code whose radius and checks are asked for
+    Checks(AnyCode),
+}
+
+// The answer to a line.
+pub fn answer_to(heap: Global, line: &str) -> Result<Answer, LineError> {
+    let mut words = Words::of(line.strip_prefix("> ").ok_or(Failure::Unreadable)?);
+    match words.word().ok_or(Failure::Unreadable)? {
+        "decode" => decoded(heap, &mut words),
+        "checks" => Ok(checks(&mut words)?),
+        name => Ok(Answer::Found(script::to(call(name, &mut words))?)),
     }
 }
 
-fn say(rt: &impl Print, answer: Answer) -> io::Result<()> {
-    println!(rt; "< {answer}")
+fn decoded(heap: Global, words: &mut Words) -> Result<Answer, LineError> {
+    let (component, text) = decode_call(words).ok_or(Failure::Unreadable)?;
+    let mut word = bytes::read(heap, text)?;
+    Ok(match decode(component, &mut word).map_err(Failure::from)? {
+        Decoding::Settled => Answer::Decoded(Some(word)),
+        Decoding::Refused => Answer::Decoded(None),
+    })
 }
 
-fn decoded(rt: &impl Print, component: Component, mut word: Vec<u8>) -> io::Result<()> {
-    match decode(component, &mut word) {
-        Ok(Decoding::Settled) => {
-            print!(rt; "< ok ")?;
-            show_bytes(rt, &word)?;
-            println!(rt; "")
+fn checks(words: &mut Words) -> Result<Answer, Failure> {
+    let code = code_with(checks_call(words).ok_or(Failure::Unreadable)?)?;
+    if !code.fits() {
+        return Err(Refusal::CodeLimits.into());
+    }
+    Ok(Answer::Checks(code))
+}
+
+impl fmt::Display for Answer {
+    fn fmt<W: fmt::Write>(&self, f: &mut fmt::Formatter<W>) -> fmt::Result {
+        match self {
+            Answer::Found(Some(value)) => write!(f, "{value}"),
+            Answer::Found(None) => f.write_str("absent"),
+            Answer::Decoded(Some(word)) => {
+                f.write_str("ok ")?;
+                bytes::write(f, word)
+            }
+            Answer::Decoded(None) => f.write_str("refused"),
+            Answer::Checks(code) => write_checks(f, code),
         }
-        Ok(Decoding::Refused) => println!(rt; "< refused"),
-        Err(refusal) => say(rt, Answer::Refused(refusal)),
     }
 }
 
 // The radius of a code, and the coefficients of each check.
-fn checks(rt: &impl Print, component: Component) -> io::Result<()> {
-    match code_with(component) {
-        Ok(code) => show_checks(rt, &code),
-        Err(refusal) => say(rt, Answer::Refused(refusal)),
-    }
-}
-
-fn show_checks(rt: &impl Print, code: &AnyCode) -> io::Result<()> {
-    if !code.fits() {
-        return say(rt, Answer::Refused(Refusal::CodeLimits));
-    }
-    let radius = code.radius();
-    print!(rt; "< radius {radius}")?;
+fn write_checks<W: fmt::Write>(f: &mut fmt::Formatter<W>, code: &AnyCode) -> fmt::Result {
+    write!(f, "radius {}", code.radius())?;
     for check in 0..code.checks() {
-        print!(rt; " ")?;
+        f.write_str(" ")?;
         for seat in 0..code.length() {
-            let coefficient = code.coefficient(check, seat);
-            print!(rt; "{coefficient:02x}")?;
+            write!(f, "{:02x}", code.coefficient(check, seat))?;
         }
-    }
-    println!(rt; "")
-}
-
-// Bytes in hexadecimal digits, and - for none.
-fn show_bytes(rt: &impl Print, bytes: &[u8]) -> io::Result<()> {
-    if bytes.is_empty() {
-        return print!(rt; "-");
-    }
-    for byte in bytes {
-        print!(rt; "{byte:02x}")?;
     }
     Ok(())
 }

@@ -2,31 +2,31 @@
 #![tactic(auto)]
 
 mod answering;
+mod bytes;
+mod line_error;
 mod reading;
 mod words;
 
-use answering::answer;
-use reading::{Request, read};
-use std::alloc::{AllocError, Global};
+use answering::answer_to;
+use line_error::LineError;
 use std::io;
 
-// What a line asks for; absent for a comment, an empty line or an expected answer, which are passed over.
-fn asked(heap: Global, line: &str) -> Result<Option<Request>, AllocError> {
-    if line.is_empty() || line.starts_with('#') || line.starts_with("< ") {
-        return Ok(None);
-    }
-    match line.strip_prefix("> ") {
-        Some(call) => Ok(Some(read(heap, call)?)),
-        None => Ok(Some(Request::Unreadable)),
-    }
+// Whether a line is passed over: a comment, an empty line or an expected answer.
+fn is_passed_over(line: &str) -> bool {
+    line.is_empty() || line.starts_with('#') || line.starts_with("< ")
 }
 
 fn main(rt: HostRuntime) -> io::Result<()> {
     for line in rt.lines(rt.alloc()) {
-        let text = line?;
-        if let Some(request) = asked(rt.alloc(), text.as_str())? {
-            println!(rt; "{text}")?;
-            answer(&rt, request)?;
+        let line = line?;
+        if is_passed_over(&line) {
+            continue;
+        }
+        println!(rt; "{line}")?;
+        match answer_to(rt.alloc(), &line) {
+            Ok(answer) => println!(rt; "< {answer}")?,
+            Err(LineError::Failure(failure)) => println!(rt; "< {failure}")?,
+            Err(LineError::Memory(error)) => return Err(error.into()),
         }
     }
     Ok(())

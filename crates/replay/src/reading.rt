@@ -1,85 +1,42 @@
-// How a line is read as a call.
-use crate::words::{Words, bytes};
+// How the arguments of a call are read. Absent where they are not what the call takes.
+use crate::words::Words;
 use any_code::Component;
 use any_geometry::Kind;
 use script::{Call, Operation, Question};
-use std::alloc::{AllocError, Global};
 
-// What a line asks for.
-#[derive(Drop)]
-pub enum Request {
-    Plain(Call),
-    Decode { component: Component, word: Vec<u8> },
-    Checks(Component),
-    Unreadable,
-}
-
-// Reads a call line, without the mark at its beginning.
-pub fn read(heap: Global, line: &str) -> Result<Request, AllocError> {
-    let mut words = Words::of(line);
-    match words.word() {
-        Some("decode") => decode_call(heap, &mut words),
-        Some("checks") => Ok(checks_call(&mut words)),
-        Some(name) => Ok(plain_call(name, &mut words)),
-        None => Ok(Request::Unreadable),
-    }
-}
-
-fn decode_call(heap: Global, words: &mut Words) -> Result<Request, AllocError> {
-    let Some(component) = component_named(words) else {
-        return Ok(Request::Unreadable);
+// A call to a field or a geometry, from its name on.
+pub fn call(name: &str, words: &mut Words) -> Option<Call> {
+    let call = match name {
+        "field" => field_call(words)?,
+        _ => geometry_call(name, words)?,
     };
-    let Some(text) = words.word() else {
-        return Ok(Request::Unreadable);
-    };
-    match bytes(heap, text)? {
-        Some(word) if words.at_end() => Ok(Request::Decode { component, word }),
-        _ => Ok(Request::Unreadable),
-    }
+    words.at_end().then_some(call)
 }
 
-fn checks_call(words: &mut Words) -> Request {
-    match component_named(words) {
-        Some(component) if words.at_end() => Request::Checks(component),
-        _ => Request::Unreadable,
-    }
+// The code and the word of a call of decoding, which is still in its digits.
+pub fn decode_call<'a>(words: &mut Words<'a>) -> Option<(Component, &'a str)> {
+    let component = component(words)?;
+    let word = words.word()?;
+    words.at_end().then_some((component, word))
 }
 
-fn component_named(words: &mut Words) -> Option<Component> {
+// The code whose checks are asked for.
+pub fn checks_call(words: &mut Words) -> Option<Component> {
+    let component = component(words)?;
+    words.at_end().then_some(component)
+}
+
+fn component(words: &mut Words) -> Option<Component> {
     match words.word()? {
-        "rs" => {
-            let order = words.number()?;
-            let size = words.number()?;
-            let checks = words.number()?;
-            Some(Component::ReedSolomon {
-                order,
-                size,
-                checks,
-            })
-        }
-        "bch" => {
-            let size = words.number()?;
-            let radius = words.number()?;
-            Some(Component::Bch { size, radius })
-        }
-        _ => None,
-    }
-}
-
-fn plain_call(name: &str, words: &mut Words) -> Request {
-    match call(name, words) {
-        Some(call) if words.at_end() => Request::Plain(call),
-        _ => Request::Unreadable,
-    }
-}
-
-fn call(name: &str, words: &mut Words) -> Option<Call> {
-    match name {
-        "field" => field_call(words),
-        "size" => geometry_call(words, Asked::Size),
-        "edge" => geometry_call(words, Asked::Edge),
-        "pointseat" => geometry_call(words, Asked::PointSeat),
-        "join" => geometry_call(words, Asked::Join),
+        "rs" => Some(Component::ReedSolomon {
+            order: words.number()?,
+            size: words.number()?,
+            checks: words.number()?,
+        }),
+        "bch" => Some(Component::Bch {
+            size: words.number()?,
+            radius: words.number()?,
+        }),
         _ => None,
     }
 }
@@ -87,35 +44,35 @@ fn call(name: &str, words: &mut Words) -> Option<Call> {
 fn field_call(words: &mut Words) -> Option<Call> {
     let order = words.number()?;
     let name = words.word()?;
-    let a = words.byte()?;
+    let a = words.number()?;
     let operation = match name {
-        "add" => Operation::Sum(a, words.byte()?),
+        "add" => Operation::Sum(a, words.number()?),
         "neg" => Operation::Negative(a),
-        "mul" => Operation::Product(a, words.byte()?),
+        "mul" => Operation::Product(a, words.number()?),
         "inv" => Operation::Inverse(a),
         _ => return None,
     };
     Some(Call::Field { order, operation })
 }
 
-// Which question a geometry is asked, its arguments still to be read.
-#[derive(Clone, Copy)]
-enum Asked {
-    Size,
-    Edge,
-    PointSeat,
-    Join,
-}
-
-fn geometry_call(words: &mut Words, asked: Asked) -> Option<Call> {
-    let kind = match words.word()? {
-        "euclidean" => Kind::Euclidean,
-        "projective" => Kind::Projective,
-        "quadrangle" => Kind::Quadrangle,
+fn geometry_call(name: &str, words: &mut Words) -> Option<Call> {
+    let kind = kind(words.word()?)?;
+    let order = words.number()?;
+    let question = match name {
+        "size" => Question::Size,
+        "edge" => Question::Edge {
+            point: words.number()?,
+            seat: words.number()?,
+        },
+        "pointseat" => Question::PointSeat {
+            edge: words.number()?,
+        },
+        "join" => Question::Join {
+            line: words.number()?,
+            point: words.number()?,
+        },
         _ => return None,
     };
-    let order = words.number()?;
-    let question = question(words, asked)?;
     Some(Call::Geometry {
         kind,
         order,
@@ -123,22 +80,11 @@ fn geometry_call(words: &mut Words, asked: Asked) -> Option<Call> {
     })
 }
 
-fn question(words: &mut Words, asked: Asked) -> Option<Question> {
-    match asked {
-        Asked::Size => Some(Question::Size),
-        Asked::Edge => {
-            let point = words.number()?;
-            let seat = words.number()?;
-            Some(Question::Edge { point, seat })
-        }
-        Asked::PointSeat => {
-            let edge = words.number()?;
-            Some(Question::PointSeat { edge })
-        }
-        Asked::Join => {
-            let line = words.number()?;
-            let point = words.number()?;
-            Some(Question::Join { line, point })
-        }
+fn kind(name: &str) -> Option<Kind> {
+    match name {
+        "euclidean" => Some(Kind::Euclidean),
+        "projective" => Some(Kind::Projective),
+        "quadrangle" => Some(Kind::Quadrangle),
+        _ => None,
     }
 }

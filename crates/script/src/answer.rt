@@ -1,74 +1,70 @@
-// Answers, and how they are written.
+// What a call is answered.
 ghost use Rattle.std.specs.Prelude.{◌≡◌};
-ghost use Rattle.script.specs.Answers.{Answers};
+ghost use Rattle.script.specs.Answers.{Answers, CallAnswers};
+ghost use Rattle.script.specs.declared.answer.Failure.TheVariants.{Refused};
 
-use crate::call::{Call, Reading};
+use crate::call::Call;
 use crate::{field_calls, geometry_calls};
+use any_field::AnyField;
+use any_geometry::geometry_over;
 use refusal::Refusal;
-use std::fmt;
+use std::error::Error;
 
-#[derive(Clone, Copy)]
-pub enum Answer {
+// What a call finds.
+#[derive(Clone, Copy, PartialEq, Eq, Debug)]
+pub enum Value {
     Number(usize),
-    Pair(usize, usize),
-    Sizes {
-        points: usize,
-        lines: usize,
-        point_degree: usize,
-        line_degree: usize,
-        edges: usize,
-    },
-    Absent,
-    Refused(Refusal),
+    Pair((usize, usize)),
+    Sizes(Sizes),
+}
+
+// How many points and lines a geometry has, how many seats each of them, and how many edges there are.
+#[derive(Clone, Copy, PartialEq, Eq, Debug)]
+pub struct Sizes {
+    pub points: usize,
+    pub lines: usize,
+    pub point_degree: usize,
+    pub line_degree: usize,
+    pub edges: usize,
+}
+
+// Why a line gets no answer: it cannot be read as a call, or the call is refused.
+#[derive(Clone, Copy, PartialEq, Eq, Debug)]
+pub enum Failure {
     Unreadable,
+    Refused(Refusal),
 }
 
-impl fmt::Display for Answer {
-    fn fmt<W: fmt::Write>(&self, f: &mut fmt::Formatter<W>) -> fmt::Result {
-        match self {
-            Answer::Number(n) => write!(f, "{n}"),
-            Answer::Pair(a, b) => write!(f, "{a} {b}"),
-            Answer::Sizes {
-                points,
-                lines,
-                point_degree,
-                line_degree,
-                edges,
-            } => { write!(f, "{points} {lines} {point_degree} {line_degree} {edges}") }
-            Answer::Absent => write!(f, "absent"),
-            Answer::Refused(refusal) => {
-                let number = refusal.number();
-                write!(f, "no {number}")?;
-                write_carried(f, refusal)
-            }
-            Answer::Unreadable => write!(f, "unreadable"),
-        }
+impl Error for Failure {}
+
+impl From<Refusal> for Failure {
+    ghost from_gives = { λ refusal failure. failure ≡ Refused refusal };
+
+    fn from(refusal: Refusal) -> Failure {
+        Failure::Refused(refusal)
     }
 }
 
-// What a refusal carries, after its number.
-fn write_carried<W: fmt::Write>(f: &mut fmt::Formatter<W>, refusal: &Refusal) -> fmt::Result {
-    match refusal {
-        Refusal::NoSuchBlock { block } => write!(f, " block {block}"),
-        Refusal::NoSuchCell { cell, layers } => write!(f, " cell {cell} layers {layers}"),
-        Refusal::NotACode { place } => write!(f, " place {place}"),
-        _ => Ok(()),
-    }
-}
-
-// The answer to a line.
-pub fn to(reading: Reading) -> Answer
-    ensures { Answers reading result }
+// The answer to a line that was read as a call, or could not be; absent where the call finds nothing.
+pub fn to(line: Option<Call>) -> Result<Option<Value>, Failure>
+    ensures { Answers line result }
 {
-    match reading {
-        Reading::Asks(Call::Field { order, operation }) => field_calls::answer(order, operation),
-        Reading::Asks(
-            Call::Geometry {
-                kind,
-                order,
-                question,
-            },
-        ) => geometry_calls::answer(kind, order, question),
-        Reading::Unreadable => Answer::Unreadable,
+    let call = line.ok_or(Failure::Unreadable)?;
+    Ok(to_call(call)?)
+}
+
+// The answer to a call.
+fn to_call(call: Call) -> Result<Option<Value>, Refusal>
+    ensures { CallAnswers call result }
+{
+    match call {
+        Call::Field { order, operation } => {
+            Ok(field_calls::worked_out(&AnyField::of_order(order)?, operation))
+        }
+        Call::Geometry {
+            kind,
+            order,
+            question,
+        } => Ok(geometry_calls::asked(&geometry_over(kind, order)?, question)),
     }
 }

@@ -2,7 +2,7 @@
 use any_geometry::Kind;
 
 // A question to a field, with its operands.
-#[derive(Clone, Copy)]
+#[derive(Clone, Copy, PartialEq, Eq, Debug)]
 pub enum Operation {
     Sum(u8, u8),
     Negative(u8),
@@ -11,7 +11,7 @@ pub enum Operation {
 }
 
 // A question to a geometry.
-#[derive(Clone, Copy)]
+#[derive(Clone, Copy, PartialEq, Eq, Debug)]
 pub enum Question {
     // how many points, lines, seats of a point, seats of a line, and edges
     Size,
@@ -34,11 +34,4 @@ pub enum Call {
         order: usize,
         question: Question,
     },
-}
-
-// A line read as a call, or a line that cannot be read.
-#[derive(Clone, Copy)]
-pub enum Reading {
-    Asks(Call),
-    Unreadable,
 }

@@ -12,8 +12,5 @@ pub fn decode(component: Component, word: &mut [u8]) -> Result<Decoding, Refusal
     ensures answer { result ≡ decode_answer (code_meant component) word.old }
     ensures after { word.new ≡ decode_left (code_meant component) word.old }
 {
-    match code_with(component) {
-        Ok(code) => component::decode(&code, word),
-        Err(refusal) => Err(refusal),
-    }
+    component::decode(&code_with(component)?, word)
 }

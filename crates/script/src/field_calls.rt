@@ -1,26 +1,20 @@
 // Questions to a field.
 ghost use Rattle.std.specs.Prelude.{◌≡◌};
-ghost use Rattle.script.specs.Answers.{field_answer};
+ghost use Rattle.script.specs.Answers.{worked_out};
 
-use crate::answer::Answer;
+use crate::answer::Value;
 use crate::call::Operation;
-use any_field::AnyField;
 use field::Field;
 
-// The answer to a question to the field of an order.
-pub fn answer(order: usize, operation: Operation) -> Answer
-    ensures { result ≡ field_answer order operation }
+// What a field gives by an operation; the inverse may be absent.
+pub fn worked_out<F: Field>(field: &F, operation: Operation) -> Option<Value>
+    ensures { result ≡ worked_out (F.Field.model field.now) operation }
 {
-    match AnyField::try_from(order) {
-        Ok(field) => match operation {
-            Operation::Sum(a, b) => Answer::Number(field.sum(a, b) as usize),
-            Operation::Negative(a) => Answer::Number(field.negative(a) as usize),
-            Operation::Product(a, b) => Answer::Number(field.product(a, b) as usize),
-            Operation::Inverse(a) => match field.inverse(a) {
-                Some(code) => Answer::Number(code as usize),
-                None => Answer::Absent,
-            },
-        },
-        Err(refusal) => Answer::Refused(refusal),
-    }
+    let code = match operation {
+        Operation::Sum(a, b) => field.sum(a, b),
+        Operation::Negative(a) => field.negative(a),
+        Operation::Product(a, b) => field.product(a, b),
+        Operation::Inverse(a) => field.inverse(a)?,
+    };
+    Some(Value::Number(code as usize))
 }

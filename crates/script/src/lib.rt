@@ -6,7 +6,8 @@ mod call;
 mod code_calls;
 mod field_calls;
 mod geometry_calls;
+mod texts;
 
-pub use answer::{Answer, to};
-pub use call::{Call, Operation, Question, Reading};
+pub use answer::{Failure, Sizes, Value, to};
+pub use call::{Call, Operation, Question};
 pub use code_calls::decode;
