@@ -35,6 +35,16 @@ pub enum AnyCode {
     Bch(BchOverAny),
 }
 
+// What the code answers, whatever its kind.
+macro_rules! ask {
+    ($any:expr, $code:ident => $answer:expr) => {
+        match $any {
+            AnyCode::ReedSolomon($code) => $answer,
+            AnyCode::Bch(BchOverAny { code: $code, .. }) => $answer,
+        }
+    };
+}
+
 // The code with these numbers. Refused with 1 if the order of its field is not listed; numbers outside the limits mean no code.
 impl TryFrom<Component> for AnyCode {
     type Error = Refusal;
@@ -62,13 +72,6 @@ impl TryFrom<Component> for AnyCode {
     }
 }
 
-// The same, by name.
-pub fn code_with(component: Component) -> Result<AnyCode, Refusal>
-    ensures { IsCodeWith component result }
-{
-    AnyCode::try_from(component)
-}
-
 impl ComponentCode for AnyCode {
     type F = AnyField;
 
@@ -84,44 +87,26 @@ impl ComponentCode for AnyCode {
     }
 
     fn length(&self) -> usize {
-        match self {
-            AnyCode::ReedSolomon(c) => c.length(),
-            AnyCode::Bch(c) => c.code.length(),
-        }
+        ask!(self, code => code.length())
     }
 
     fn checks(&self) -> usize {
-        match self {
-            AnyCode::ReedSolomon(c) => c.checks(),
-            AnyCode::Bch(c) => c.code.checks(),
-        }
+        ask!(self, code => code.checks())
     }
 
     fn radius(&self) -> usize {
-        match self {
-            AnyCode::ReedSolomon(c) => c.radius(),
-            AnyCode::Bch(c) => c.code.radius(),
-        }
+        ask!(self, code => code.radius())
     }
 
     fn fits(&self) -> bool {
-        match self {
-            AnyCode::ReedSolomon(c) => c.fits(),
-            AnyCode::Bch(c) => c.code.fits(),
-        }
+        ask!(self, code => code.fits())
     }
 
     fn coefficient(&self, check: usize, seat: usize) -> u8 {
-        match self {
-            AnyCode::ReedSolomon(c) => c.coefficient(check, seat),
-            AnyCode::Bch(c) => c.code.coefficient(check, seat),
-        }
+        ask!(self, code => code.coefficient(check, seat))
     }
 
     fn settle(&self, word: &mut [u8]) -> Decoding {
-        match self {
-            AnyCode::ReedSolomon(c) => c.settle(word),
-            AnyCode::Bch(c) => c.code.settle(word),
-        }
+        ask!(self, code => code.settle(word))
     }
 }

@@ -3,7 +3,7 @@ use crate::bytes;
 use crate::line_error::LineError;
 use crate::reading::{call, checks_call, decode_call};
 use crate::words::Words;
-use any_code::{AnyCode, Component, code_with};
+use any_code::{AnyCode, Component};
 use component::{ComponentCode, Decoding};
 use refusal::Refusal;
 use script::{Failure, Value, decode};
@@ -41,7 +41,7 @@ fn decoded(heap: Global, words: &mut Words) -> Result<Answer, LineError> {
 }
 
 fn checks(words: &mut Words) -> Result<Answer, Failure> {
-    let code = code_with(checks_call(words).ok_or(Failure::Unreadable)?)?;
+    let code = AnyCode::try_from(checks_call(words).ok_or(Failure::Unreadable)?)?;
     if !code.fits() {
         return Err(Refusal::CodeLimits.into());
     }

@@ -59,7 +59,7 @@ fn to_call(call: Call) -> Result<Option<Value>, Refusal>
 {
     match call {
         Call::Field { order, operation } => {
-            Ok(field_calls::worked_out(&AnyField::of_order(order)?, operation))
+            Ok(field_calls::worked_out(&AnyField::try_from(order)?, operation))
         }
         Call::Geometry {
             kind,

@@ -23,7 +23,7 @@ pub enum Question {
     Join { line: usize, point: usize },
 }
 
-#[derive(Clone, Copy)]
+#[derive(Clone, Copy, PartialEq, Eq, Debug)]
 pub enum Call {
     Field {
         order: usize,

@@ -3,7 +3,7 @@ ghost use Rattle.std.specs.Prelude.{◌≡◌};
 ghost use Rattle.any_code.specs.Kinds.{code_meant};
 ghost use Rattle.component.specs.Calls.{decode_answer, decode_left};
 
-use any_code::{Component, code_with};
+use any_code::{AnyCode, Component};
 use component::Decoding;
 use refusal::Refusal;
 
@@ -12,5 +12,5 @@ pub fn decode(component: Component, word: &mut [u8]) -> Result<Decoding, Refusal
     ensures answer { result ≡ decode_answer (code_meant component) word.old }
     ensures after { word.new ≡ decode_left (code_meant component) word.old }
 {
-    component::decode(&code_with(component)?, word)
+    component::decode(&AnyCode::try_from(component)?, word)
 }
