@@ -1,23 +1,16 @@
-use Rattle.std.proofs.Common.{◌+◌, ◌-◌, drop, sym, ap, ◌∙◌, ap₂, arith}
-use Rattle.std.proofs.lemmas.List.{drop_all}
-use Rattle.reed_solomon_theory.specs.Decode.{against}
-use Rattle.reed_solomon.specs.Words.{at}
-use Rattle.reed_solomon.proofs.Steps.{against_none, against_more}
+use Rattle.std.proofs.Common.{◌∙◌, ℕ, ◌-◌, drop, arith, length-drop, rules}
+use Rattle.std.proofs.lemmas.List.{take_all}
+use Rattle.std.proofs.lemmas.Iterator.{YieldsList-from_slice, YieldsList-from_zip}
+use Rattle.std.proofs.lemmas.Iterator.Consumers.{fold_from_yields_List}
+use Rattle.reed_solomon.proofs.Folds.{against_is}
 use Rattle.reed_solomon.proofs.locator.against_at.Goals as goal
 
-pub loop-k-init : goal.loop-k-init
-loop-k-init g c =
+pub returns : goal.returns
+returns g c =
     let φ = g.F.Field.model c.args.field.now in
     let laws = g.met.F.Field.lawful c.args.field.now in
-    against_none φ laws (at c.args.sums.now) (c.args.j + 5) ∙ sym (ap (λ l. against φ l (at c.args.sums.now) (c.args.j + 5)) (drop_all 5 c.args.row.now (omega arith)))
-
-pub loop-k-preserved : goal.loop-k-preserved
-loop-k-preserved g c =
-    let φ = g.F.Field.model c.args.field.now in
-    let laws = g.met.F.Field.lawful c.args.field.now in
-    let k = c.loop-k.k in
-    let row = c.args.row.now in
-    let s = at c.args.sums.now in
-    c.sum-value.ensures
-    ∙ ap₂ φ.sum c.product.ensures (c.loop-k.invariant ∙ ap (λ n. against φ (drop n row) s (c.args.j + n)) (omega arith))
-    ∙ against_more φ laws row s c.args.j (k - 1) (omega arith)
+    let rest = drop c.args.j c.args.sums.now in
+    let whole = take_all (8 - c.args.j) rest (omega (arith, length-drop c.args.j c.args.sums.now)) in
+    fold_from_yields_List _ (λ v (p : ℕ × ℕ). φ.sum v (φ.prod p.0 p.1)) 0 c.fold.result c.fold.ensures.ran
+    (YieldsList-from_zip (YieldsList-from_slice c.args.row.now cc) (YieldsList-from_slice rest (c.zip.ensures.second.0 ∙ whole))) (λ a x b q k. search rules)
+    ∙ against_is φ laws c.args.row.now c.args.sums.now c.args.j (omega arith)
