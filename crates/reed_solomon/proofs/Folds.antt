@@ -1,17 +1,17 @@
 -- What the folds over a list work out.
-use Rattle.std.proofs.Common.{◌≡◌, ℕ, zero, suc, ◌+◌, ◌<◌, ◌≤◌, ◌≢◌, Bool, ◌&&◌, eqb, List, [], ◌∷◌, length, get_or, take, drop, fold, reverse, sym, refl, ap, ◌∙◌, subst, add-one, arith, drop-cons}
+use Rattle.std.proofs.Common.{◌≡◌, ℕ, zero, suc, ◌+◌, ◌<◌, ◌≤◌, ◌≢◌, Bool, ◌&&◌, eqb, List, [], ◌∷◌, length, get_or, take, drop, fold, reverse, sym, refl, ap, ◌∙◌, subst, add-one, arith, ap₂}
 use native.Mathlib.Decide.{ℕ_discrete}
 use denote.Param.Members.{Mut}
 use Rattle.std.specs.Fn.{Called}
 use Rattle.std.specs.Array.{IsFromFnResultFrom}
 use Rattle.std.specs.List.{list_all, range_with_len, zip}
-use Rattle.std.proofs.lemmas.List.{take_all}
+use Rattle.std.proofs.lemmas.List.{take_all, get_or-drop}
 use Rattle.std.proofs.lemmas.List.Folds.{list_all_more}
 use Rattle.std.proofs.lemmas.List.Sums.{fold-append}
 use Rattle.std.proofs.lemmas.Grind.{reverse_onto}
 use Rattle.field.specs.Model.{FieldModel}
 use Rattle.field.specs.Laws.{FieldLaws}
-use Rattle.field.proofs.Ring.{zero_code}
+use Rattle.field.proofs.Ring.{zero_code, prod_zero}
 use Rattle.reed_solomon_theory.specs.Code.{power}
 use Rattle.reed_solomon_theory.specs.Decode.{value, against, passes}
 use Rattle.reed_solomon.specs.Words.{at}
@@ -58,23 +58,36 @@ module _ (φ : FieldModel) where
       ∙ ap (λ v. φ.sum c (φ.prod z v)) (value_is z cs)
 
 module _ (φ : FieldModel) (laws : FieldLaws φ) where
-  against_on : (cs s : List ℕ) (j a : ℕ) → a < φ.order → j + length cs ≤ length s
-      → fold (λ v (p : ℕ × ℕ). φ.sum v (φ.prod p.0 p.1)) a (zip cs (drop j s)) ≡ φ.sum a (against φ cs (at s) j)
-  unfolding against
-  against_on [] s j a h l = sym (laws.sum_zero a h)
-  against_on (c ∷ cs) s j a h l =
-      let f : ℕ → ℕ × ℕ → ℕ = λ v p. φ.sum v (φ.prod p.0 p.1) in
-      let inside : j < length s = omega arith in
-      ap (λ ys. fold f a (zip (c ∷ cs) ys)) (drop-cons s j 0 inside)
-      ∙ against_on cs s (suc j) (φ.sum a (φ.prod c (at s j))) (laws.sum_code a (φ.prod c (at s j))) (omega arith)
-      ∙ laws.sum_assoc a (φ.prod c (at s j)) (against φ cs (at s) (suc j))
-
   against_code : (cs : List ℕ) (s : ℕ → ℕ) (j : ℕ) → against φ cs s j < φ.order
   unfolding against
   against_code [] s j = zero_code φ laws
   against_code (c ∷ cs) s j = laws.sum_code (φ.prod c (s j)) (against φ cs s (suc j))
 
+  against_zeros : (cs : List ℕ) (j : ℕ) → against φ cs (at []) j ≡ 0
+  unfolding against
+  against_zeros [] j = refl
+  against_zeros (c ∷ cs) j = ap₂ φ.sum (prod_zero φ laws c) (against_zeros cs (suc j)) ∙ laws.sum_zero 0 (zero_code φ laws)
+
+  against_next : (cs s : List ℕ) (x j : ℕ) → against φ cs (at (x ∷ s)) (suc j) ≡ against φ cs (at s) j
+  unfolding against
+  against_next [] s x j = refl
+  against_next (c ∷ cs) s x j = ap (φ.sum (φ.prod c (at s j))) (against_next cs s x (suc j))
+
+  against_on : (cs s : List ℕ) (a : ℕ) → a < φ.order → fold (λ v (p : ℕ × ℕ). φ.sum v (φ.prod p.0 p.1)) a (zip cs s) ≡ φ.sum a (against φ cs (at s) 0)
+  unfolding against
+  against_on [] s a h = sym (laws.sum_zero a h)
+  against_on (c ∷ cs) [] a h = sym (ap (φ.sum a) (against_zeros (c ∷ cs) 0) ∙ laws.sum_zero a h)
+  against_on (c ∷ cs) (x ∷ s) a h =
+      against_on cs s (φ.sum a (φ.prod c x)) (laws.sum_code a (φ.prod c x)) ∙ laws.sum_assoc a (φ.prod c x) (against φ cs (at s) 0)
+      ∙ ap (λ t. φ.sum a (φ.sum (φ.prod c x) t)) (sym (against_next cs s x 0))
+
   -- the sum of the products is the polynomial against the checks
-  pub against_is : (cs s : List ℕ) (j : ℕ) → j + length cs ≤ length s → fold (λ v (p : ℕ × ℕ). φ.sum v (φ.prod p.0 p.1)) 0 (zip cs (drop j s)) ≡ against φ cs (at s) j
-  against_is cs s j l =
-      against_on cs s j 0 (zero_code φ laws) l ∙ laws.sum_comm 0 (against φ cs (at s) j) ∙ laws.sum_zero (against φ cs (at s) j) (against_code cs (at s) j)
+  pub against_is : (cs s : List ℕ) → fold (λ v (p : ℕ × ℕ). φ.sum v (φ.prod p.0 p.1)) 0 (zip cs s) ≡ against φ cs (at s) 0
+  against_is cs s =
+      against_on cs s 0 (zero_code φ laws) ∙ laws.sum_comm 0 (against φ cs (at s) 0) ∙ laws.sum_zero (against φ cs (at s) 0) (against_code cs (at s) 0)
+
+  -- the checks from j on
+  pub against_drop : (cs s : List ℕ) (j i : ℕ) → against φ cs (at (drop j s)) i ≡ against φ cs (at s) (j + i)
+  unfolding against
+  against_drop [] s j i = refl
+  against_drop (c ∷ cs) s j i = ap₂ (λ x t. φ.sum (φ.prod c x) t) (get_or-drop j s i 0) (against_drop cs s j (suc i) ∙ ap (against φ cs (at s)) (omega arith))

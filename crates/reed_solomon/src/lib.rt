@@ -49,6 +49,13 @@ impl<F: Field> ReedSolomon<F> {
             checks,
         }
     }
+
+    // A number of the code: 0 where there is no code.
+    fn counted(&self, number: usize) -> usize
+        ensures { result ≡ cond (within_limits (F.Field.model self.now.field).order self.now.size self.now.checks) number 0 }
+    {
+        if self.fits() { number } else { 0 }
+    }
 }
 
 impl<F: Field + Drop> ReedSolomon<F> {
@@ -68,15 +75,6 @@ impl<F: Field + Drop> ReedSolomon<F> {
             return Err(Refusal::CodeLimits);
         }
         Ok(ReedSolomon::over(field, size, checks))
-    }
-}
-
-impl<F: Field> ReedSolomon<F> {
-    // A number of the code: 0 where there is no code.
-    fn counted(&self, number: usize) -> usize
-        ensures { result ≡ cond (within_limits (F.Field.model self.now.field).order self.now.size self.now.checks) number 0 }
-    {
-        if self.fits() { number } else { 0 }
     }
 }
 

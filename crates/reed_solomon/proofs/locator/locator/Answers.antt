@@ -11,6 +11,12 @@ loop-j-init g c =
     (c.truncate.ensures.items ∙ ap (take (c.args.t + 1)) c.from-rows.ensures.0) in
     (start, omega (arith, ap length c.from-rows.ensures.0))
 
+pub loop-j-preserved : goal.loop-j-preserved
+loop-j-preserved g c =
+    let more = c.step.ensures.enough in
+    let so_far = c.loop-j.invariant.1 in
+    (c.step.ensures.after (c.args.t + 1) c.loop-j.invariant.0, omega arith)
+
 pub returns : goal.returns
 returns g c =
     let φ = g.F.Field.model c.args.field.now in

@@ -3,11 +3,11 @@ use Rattle.std.proofs.lemmas.List.{get_or_default}
 use Rattle.std.proofs.lemmas.List.Edits.{map_over_more}
 use Rattle.reed_solomon_theory.specs.Elimination.{cleared}
 use Rattle.reed_solomon.specs.Words.{at}
-use Rattle.reed_solomon.proofs.locator.clear_all.Goals as goal
+use Rattle.reed_solomon.proofs.locator.clear.Goals as goal
 
 pub loop-row-preserved : goal.loop-row-preserved
 loop-row-preserved g c =
-    let f = cleared (g.F.Field.model c.args.field.now) (at c.args.sums.now) c.args.j c.args.v c.args.pivot.now in
+    let f = cleared (g.F.Field.model c.args.field.now) (at c.args.sums.now) 0 c.against-v.result c.args.pivot.now in
     let ys = c.loop-row.row-items in
     let i = c.loop-row.row-index in
     let y = get_or ys i [] in
