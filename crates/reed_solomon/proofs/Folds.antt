@@ -1,11 +1,11 @@
 -- What the folds over a list work out.
-use Rattle.std.proofs.Common.{◌≡◌, ℕ, zero, suc, ◌+◌, ◌<◌, ◌≤◌, ◌≢◌, Bool, ◌&&◌, eqb, List, [], ◌∷◌, length, get_or, take, drop, fold, reverse, sym, refl, ap, ◌∙◌, subst, add-one, arith, ap₂}
+use Rattle.std.proofs.Common.{◌≡◌, ℕ, zero, suc, ◌+◌, ◌<◌, ◌≤◌, ◌≢◌, Bool, ◌&&◌, eqb, List, [], ◌∷◌, length, get_or, take, fold, reverse, sym, refl, ap, ◌∙◌, subst, add-one, arith, ap₂}
 use native.Mathlib.Decide.{ℕ_discrete}
 use denote.Param.Members.{Mut}
 use Rattle.std.specs.Fn.{Called}
 use Rattle.std.specs.Array.{IsFromFnResultFrom}
 use Rattle.std.specs.List.{list_all, range_with_len, zip}
-use Rattle.std.proofs.lemmas.List.{take_all, get_or-drop}
+use Rattle.std.proofs.lemmas.List.{take_all}
 use Rattle.std.proofs.lemmas.List.Folds.{list_all_more}
 use Rattle.std.proofs.lemmas.List.Sums.{fold-append}
 use Rattle.std.proofs.lemmas.Grind.{reverse_onto}
@@ -86,8 +86,11 @@ module _ (φ : FieldModel) (laws : FieldLaws φ) where
   against_is cs s =
       against_on cs s 0 (zero_code φ laws) ∙ laws.sum_comm 0 (against φ cs (at s) 0) ∙ laws.sum_zero (against φ cs (at s) 0) (against_code cs (at s) 0)
 
-  -- the checks from j on
-  pub against_drop : (cs s : List ℕ) (j i : ℕ) → against φ cs (at (drop j s)) i ≡ against φ cs (at s) (j + i)
+  -- a polynomial of at most n coefficients reads n checks
+  pub against_same : (cs : List ℕ) (s u : ℕ → ℕ) (i j n : ℕ) → length cs ≤ n → ((k : ℕ) → k < n → s (i + k) ≡ u (j + k)) → against φ cs s i ≡ against φ cs u j
   unfolding against
-  against_drop [] s j i = refl
-  against_drop (c ∷ cs) s j i = ap₂ (λ x t. φ.sum (φ.prod c x) t) (get_or-drop j s i 0) (against_drop cs s j (suc i) ∙ ap (against φ cs (at s)) (omega arith))
+  against_same [] s u i j n h e = refl
+  against_same (c ∷ cs) s u i j zero h e = absurd (omega arith)
+  against_same (c ∷ cs) s u i j (suc n) h e =
+      ap₂ (λ x t. φ.sum (φ.prod c x) t) (ap s (omega arith) ∙ e 0 (omega arith) ∙ ap u (omega arith))
+      (against_same cs s u (suc i) (suc j) n (omega arith) (λ k l. ap s (omega arith) ∙ e (suc k) (omega arith) ∙ ap u (omega arith)))

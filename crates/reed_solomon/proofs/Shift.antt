@@ -12,7 +12,7 @@ use Rattle.field.specs.Laws.{FieldLaws}
 use Rattle.reed_solomon_theory.specs.Decode.{against, reciprocal}
 use Rattle.reed_solomon_theory.specs.Elimination.{Basis, plus, cleared}
 use Rattle.reed_solomon.specs.Words.{at}
-use Rattle.reed_solomon.proofs.Folds.{against_drop}
+use Rattle.reed_solomon.proofs.Folds.{against_same}
 use Rattle.reed_solomon.proofs.Steps.{pivot_j, none_j}
 
 -- of the rows xs, the p-th has gone, and those after it are changed by f
@@ -62,7 +62,7 @@ no_place t xs e k h = elim (cases_lt (position_or_len t xs) (length xs)) [
         let is : position t xs ≡ Some (position_or_len t xs) = ap (λ b. cond b (Some (position_or_len t xs)) None) (lt-ltb (position_or_len t xs) (length xs) l) in
         cc
 
-module _ (φ : FieldModel) (laws : FieldLaws φ) (sums from : List ℕ) (j top : ℕ) where
+module _ (φ : FieldModel) (laws : FieldLaws φ) (from : List ℕ) where
   -- whether a row is not 0 against the checks
   abbrev told : List ℕ → Bool
   told row = not (eqb (against φ row (at from) 0) 0)
@@ -78,29 +78,27 @@ module _ (φ : FieldModel) (laws : FieldLaws φ) (sums from : List ℕ) (j top :
   told_other row e z = true≢false (sym e ∙ ap not (eq-eqb (against φ row (at from) 0) 0 z))
 
   -- the checks from j on
-  module _ (long : length sums ≡ 8) (part : from ≡ take (8 - j) (drop j sums)) where
-    same_check : (row : List ℕ) → against φ row (at from) 0 ≡ against φ row (at sums) j
-    same_check row =
-        ap (λ s. against φ row (at s) 0) (part ∙ take_all (8 - j) (drop j sums) (omega (arith, length-drop j sums)))
-        ∙ against_drop φ laws row sums j 0 ∙ ap (against φ row (at sums)) (omega arith)
+  module _ (s : ℕ → ℕ) (top j : ℕ) (part : (k : ℕ) → k < 5 → s (j + k) ≡ at from k) where
+    same_check : (row : List ℕ) → length row ≡ 5 → against φ row (at from) 0 ≡ against φ row s j
+    same_check row wide = against_same φ laws row (at from) s 0 j 5 (omega arith) (λ k h. ap (at from) (omega arith) ∙ sym (part k h))
 
-    same_cleared : (v : ℕ) (pivot row : List ℕ) → cleared φ (at from) 0 v pivot row ≡ cleared φ (at sums) j v pivot row
+    same_cleared : (v : ℕ) (pivot row : List ℕ) → length row ≡ 5 → cleared φ (at from) 0 v pivot row ≡ cleared φ s j v pivot row
     unfolding cleared
-    same_cleared v pivot row = ap (λ x. plus φ (φ.neg (φ.prod x (reciprocal φ v))) pivot row) (same_check row)
+    same_cleared v pivot row wide = ap (λ x. plus φ (φ.neg (φ.prod x (reciprocal φ v))) pivot row) (same_check row wide)
 
     -- where each row is 0 there, all stay
     pub all_stay : (xs rs : List (List ℕ)) (o : Option ℕ) → rs ≡ xs → o ≡ position told rs → o ≡ None
-        → Basis φ (at sums) 5 top j (length xs) (λ l. get_or xs l []) → Basis φ (at sums) 5 top (j + 1) (length xs) (λ l. get_or xs l [])
+        → Basis φ s 5 top j (length xs) (λ l. get_or xs l []) → Basis φ s 5 top (j + 1) (length xs) (λ l. get_or xs l [])
     all_stay xs rs o r e n b =
-        none_j φ laws (at sums) 5 top j (length xs) (λ l. get_or xs l []) b
-        (λ l h. sym (same_check (get_or xs l [])) ∙ told_zero (get_or xs l []) (no_place told xs (sym (ap (position told) r) ∙ sym e ∙ n) l h))
+        none_j φ laws s 5 top j (length xs) (λ l. get_or xs l []) b
+        (λ l h. sym (same_check (get_or xs l []) (b.rows l h).wide) ∙ told_zero (get_or xs l []) (no_place told xs (sym (ap (position told) r) ∙ sym e ∙ n) l h))
 
     -- otherwise the first that is not goes
     pub one_goes : (xs rs ys ds zs : List (List ℕ)) (o : Option ℕ) (p : ℕ) (pivot : List ℕ) → rs ≡ xs → o ≡ position told rs → o ≡ Some p
         → pivot ≡ get_or xs p pivot → ys ≡ remove xs p → length ys + 1 ≡ length xs → ds ≡ ys
         → zs ≡ map (cleared φ (at from) 0 (against φ pivot (at from) 0) pivot) (take (length ds - p) (drop p ds))
-        → Basis φ (at sums) 5 top j (length xs) (λ l. get_or xs l [])
-        → Basis φ (at sums) 5 top (j + 1) (length (refill (length ys) ys (take p ds ++ (zs ++ drop (length ds - p) (drop p ds)))))
+        → Basis φ s 5 top j (length xs) (λ l. get_or xs l [])
+        → Basis φ s 5 top (j + 1) (length (refill (length ys) ys (take p ds ++ (zs ++ drop (length ds - p) (drop p ds)))))
         (λ l. get_or (refill (length ys) ys (take p ds ++ (zs ++ drop (length ds - p) (drop p ds)))) l [])
     one_goes xs rs ys ds zs o p pivot r e n pe ye m de ze b =
         let found = position-Some told xs p [] (sym (ap (position told) r) ∙ sym e ∙ n) in
@@ -108,13 +106,13 @@ module _ (φ : FieldModel) (laws : FieldLaws φ) (sums from : List ℕ) (j top :
         let same : pivot ≡ get_or xs p [] = pe ∙ get_or_default xs p pivot [] inside in
         let v = against φ pivot (at from) 0 in
         let f : List ℕ → List ℕ = cleared φ (at from) 0 v pivot in
-        let value : v ≡ against φ (get_or xs p []) (at sums) j = same_check pivot ∙ ap (λ x. against φ x (at sums) j) same in
+        let value : v ≡ against φ (get_or xs p []) s j = ap (λ x. against φ x (at from) 0) same ∙ same_check (get_or xs p []) (b.rows p inside).wide in
         let moved = subst (λ ds. Shifted xs p f (refill (length ys) ys (take p ds ++ (zs ++ drop (length ds - p) (drop p ds))))) (sym de)
         (shifted f xs ys zs p inside ye m (subst (λ ds. zs ≡ map f (take (length ds - p) (drop p ds))) de ze)) in
         let rows = refill (length ys) ys (take p ds ++ (zs ++ drop (length ds - p) (drop p ds))) in
-        subst (λ c. Basis φ (at sums) 5 top (j + 1) c (λ l. get_or rows l [])) (omega (arith, moved.long))
-        (pivot_j φ laws (at sums) 5 top j (length xs) p v (λ l. get_or xs l []) (λ l. get_or rows l []) b inside
-        (λ l h. sym (same_check (get_or xs l [])) ∙ told_zero (get_or xs l []) (found.2 l h)) value
+        subst (λ c. Basis φ s 5 top (j + 1) c (λ l. get_or rows l [])) (omega (arith, moved.long))
+        (pivot_j φ laws s 5 top j (length xs) p v (λ l. get_or xs l []) (λ l. get_or rows l []) b inside
+        (λ l h. sym (same_check (get_or xs l []) (b.rows l (omega arith)).wide) ∙ told_zero (get_or xs l []) (found.2 l h)) value
         (λ z. told_other (get_or xs p []) found.1 (ap (λ x. against φ x (at from) 0) (sym same) ∙ z))
         moved.before
-        (λ l h k. moved.after l h k ∙ same_cleared v pivot (get_or xs (l + 1) []) ∙ ap (λ x. cleared φ (at sums) j v x (get_or xs (l + 1) [])) same))
+        (λ l h k. moved.after l h k ∙ same_cleared v pivot (get_or xs (l + 1) []) (b.rows (l + 1) k).wide ∙ ap (λ x. cleared φ s j v x (get_or xs (l + 1) [])) same))

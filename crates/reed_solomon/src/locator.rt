@@ -17,7 +17,7 @@ pub(crate) fn inverse_or_zero<F: Field>(field: &F, a: u8) -> u8
 }
 
 // A row against checks in order: the sum of each coefficient times the check in its place.
-fn against<F: Field>(field: &F, row: &[u8; 5], sums: &[u8]) -> u8
+fn against<F: Field>(field: &F, row: &[u8; 5], sums: &[u8; 5]) -> u8
     ensures { result ≡ against (F.Field.model field.now) row.now (at sums.now) 0 }
 {
     row.iter().zip(sums).fold(0, |value, (coefficient, sum)| {
@@ -26,7 +26,13 @@ fn against<F: Field>(field: &F, row: &[u8; 5], sums: &[u8]) -> u8
 }
 
 // The row less the multiple of the pivot that makes it 0 against the checks, where the pivot is v.
-fn cleared_row<F: Field>(field: &F, sums: &[u8], v: u8, pivot: &[u8; 5], row: &[u8; 5]) -> [u8; 5]
+fn cleared_row<F: Field>(
+    field: &F,
+    sums: &[u8; 5],
+    v: u8,
+    pivot: &[u8; 5],
+    row: &[u8; 5],
+) -> [u8; 5]
     ensures { result ≡ cleared (F.Field.model field.now) (at sums.now) 0 v pivot.now row.now }
 {
     let factor = field.negative(field.product(
@@ -37,7 +43,7 @@ fn cleared_row<F: Field>(field: &F, sums: &[u8], v: u8, pivot: &[u8; 5], row: &[
 }
 
 // Clears the rows by the pivot.
-fn clear<F: Field>(field: &F, sums: &[u8], pivot: &[u8; 5], rows: &mut [[u8; 5]])
+fn clear<F: Field>(field: &F, sums: &[u8; 5], pivot: &[u8; 5], rows: &mut [[u8; 5]])
     ensures { rows.new ≡ map (cleared (F.Field.model field.now) (at sums.now) 0 (against (F.Field.model field.now) pivot.now (at sums.now) 0) pivot.now) rows.old }
 {
     let v = against(field, pivot, sums);
@@ -47,23 +53,22 @@ fn clear<F: Field>(field: &F, sums: &[u8], pivot: &[u8; 5], rows: &mut [[u8; 5]]
 }
 
 // Where the first row is that is not 0 against the checks.
-fn pivot_at<F: Field>(field: &F, sums: &[u8], rows: &[[u8; 5]]) -> Option<usize>
+fn pivot_at<F: Field>(field: &F, sums: &[u8; 5], rows: &[[u8; 5]]) -> Option<usize>
     ensures { result ≡ position (λ row. not (against (F.Field.model field.now) row (at sums.now) 0 == 0)) rows.now }
 {
     rows.iter().position(|row| against(field, row, sums) != 0)
 }
 
-// Makes the rows 0 against the checks from j on: the first that is not goes, and those after it are cleared by it.
-fn step<F: Field>(field: &F, sums: &[u8; 8], j: usize, rows: &mut ArrayVec<[u8; 5], 5>)
-    requires { j ≤ 8 }
-    ensures after { (top : ℕ) → Basis (F.Field.model field.now) (at sums.now) 5 top j (array_vec_len rows.old) (λ l. slice_index_or rows.old.items l [])
-        → Basis (F.Field.model field.now) (at sums.now) 5 top (j + 1) (array_vec_len rows.new) (λ l. slice_index_or rows.new.items l []) }
+// Makes the rows 0 against the checks: the first that is not goes, and those after it are cleared by it.
+fn step<F: Field>(field: &F, sums: &[u8; 5], rows: &mut ArrayVec<[u8; 5], 5>)
+    ensures after { (s : ℕ → ℕ) (top j : ℕ) → ((k : ℕ) → k < 5 → s (j + k) ≡ at sums.now k)
+        → Basis (F.Field.model field.now) s 5 top j (array_vec_len rows.old) (λ l. slice_index_or rows.old.items l [])
+        → Basis (F.Field.model field.now) s 5 top (j + 1) (array_vec_len rows.new) (λ l. slice_index_or rows.new.items l []) }
     ensures enough { array_vec_len rows.old ≤ array_vec_len rows.new + 1 }
 {
-    let from = &sums[j..];
-    if let Some(p) = pivot_at(field, from, rows) {
+    if let Some(p) = pivot_at(field, sums, rows) {
         let pivot = rows.remove(p);
-        clear(field, from, &pivot, &mut rows[p..]);
+        clear(field, sums, &pivot, &mut rows[p..]);
     }
 }
 
@@ -80,8 +85,8 @@ pub(crate) fn locator<F: Field>(field: &F, sums: &[u8; 8], t: usize) -> [u8; 5]
         [0, 0, 0, 0, 1],
     ]);
     rows.truncate(t + 1);
-    for j in 0..t {
-        step(field, sums, j, &mut rows);
+    for five in sums.array_windows().take(t) {
+        step(field, five, &mut rows);
     }
     rows[0]
 }
