@@ -4,3 +4,4 @@ mod Roots
 mod Shedding
 mod Adding
 mod Correcting
+mod Folds

@@ -1,6 +1,5 @@
 -- The roots, gathered from the last seat to the first.
-use Rattle.std.proofs.Common.{◌≡◌, ℕ, zero, suc, ◌+◌, ◌-◌, ◌<◌, ◌≤◌, Bool, true, false, cond, eqb, List, [], ◌∷◌, ◌++◌, length, take, set, sym, ap, ◌∙◌, append_assoc, append-nil, arith, length-append, length-take}
-use Rattle.std.proofs.lemmas.List.{take_more_set}
+use Rattle.std.proofs.Common.{◌≡◌, ℕ, zero, suc, ◌-◌, ◌<◌, ◌≤◌, Bool, true, false, cond, eqb, List, [], ◌∷◌, ◌++◌, length, sym, ap, ◌∙◌, append_assoc, append-nil, arith, length-append}
 use Rattle.field.specs.Model.{FieldModel}
 use Rattle.reed_solomon_theory.specs.Code.{Below, seats}
 use Rattle.reed_solomon_theory.specs.Decode.{roots, value}
@@ -11,24 +10,22 @@ unfolding seats
 seats_step zero f h = absurd (omega arith)
 seats_step (suc i) f h = ap (λ k. cond (f k) (k ∷ seats k f) (seats k f)) (omega arith)
 
-pub room : (arr all : List ℕ) (count i : ℕ) (f : ℕ → Bool) → length arr ≡ 4 → count ≤ 4 → (take count arr ++ seats i f) ≡ all → length all ≤ 4 → 0 < i → f (i - 1) ≡ true → count < 4
-room arr all count i f l h e k p t =
-    let w : seats i f ≡ (i - 1) ∷ seats (i - 1) f = seats_step i f p ∙ ap (λ b. cond b ((i - 1) ∷ seats (i - 1) f) (seats (i - 1) f)) t in
-    omega (arith, length-take count arr, length-append (take count arr) (seats i f), ap length e, ap length w)
+-- the last seat is one of them
+seats_found : (i : ℕ) (f : ℕ → Bool) → 0 < i → f (i - 1) ≡ true → seats i f ≡ (i - 1) ∷ seats (i - 1) f
+seats_found i f h t = seats_step i f h ∙ ap (λ b. cond b ((i - 1) ∷ seats (i - 1) f) (seats (i - 1) f)) t
 
-pub found_turn : (arr all : List ℕ) (count i : ℕ) (f : ℕ → Bool) → length arr ≡ 4 → count < 4 → (take count arr ++ seats i f) ≡ all → 0 < i → f (i - 1) ≡ true
-    → (take (count + 1) (set arr count (i - 1)) ++ seats (i - 1) f) ≡ all
-found_turn arr all count i f l h e p t =
-    let w : seats i f ≡ (i - 1) ∷ seats (i - 1) f = seats_step i f p ∙ ap (λ b. cond b ((i - 1) ∷ seats (i - 1) f) (seats (i - 1) f)) t in
-    ap (λ xs. xs ++ seats (i - 1) f) (take_more_set arr count (i - 1) (omega arith)) ∙ append_assoc (take count arr) ((i - 1) ∷ []) (seats (i - 1) f)
-    ∙ ap (λ xs. take count arr ++ xs) (sym w) ∙ e
+pub room : (found all : List ℕ) (i : ℕ) (f : ℕ → Bool) → (found ++ seats i f) ≡ all → length all ≤ 4 → 0 < i → f (i - 1) ≡ true → length found < 4
+room found all i f e k p t = omega (arith, length-append found (seats i f), ap length e, ap length (seats_found i f p t))
 
-pub passed_turn : (arr all : List ℕ) (count i : ℕ) (f : ℕ → Bool) → (take count arr ++ seats i f) ≡ all → 0 < i → f (i - 1) ≡ false → (take count arr ++ seats (i - 1) f) ≡ all
-passed_turn arr all count i f e p t = ap (λ xs. take count arr ++ xs) (sym (seats_step i f p ∙ ap (λ b. cond b ((i - 1) ∷ seats (i - 1) f) (seats (i - 1) f)) t)) ∙ e
+pub found_turn : (found all : List ℕ) (i : ℕ) (f : ℕ → Bool) → (found ++ seats i f) ≡ all → 0 < i → f (i - 1) ≡ true → ((found ++ (i - 1) ∷ []) ++ seats (i - 1) f) ≡ all
+found_turn found all i f e p t = append_assoc found ((i - 1) ∷ []) (seats (i - 1) f) ∙ ap (λ xs. found ++ xs) (sym (seats_found i f p t)) ∙ e
 
-pub found_all : (arr all : List ℕ) (count : ℕ) (f : ℕ → Bool) → (take count arr ++ seats 0 f) ≡ all → take count arr ≡ all
+pub passed_turn : (found all : List ℕ) (i : ℕ) (f : ℕ → Bool) → (found ++ seats i f) ≡ all → 0 < i → f (i - 1) ≡ false → (found ++ seats (i - 1) f) ≡ all
+passed_turn found all i f e p t = ap (λ xs. found ++ xs) (sym (seats_step i f p ∙ ap (λ b. cond b ((i - 1) ∷ seats (i - 1) f) (seats (i - 1) f)) t)) ∙ e
+
+pub found_all : (found all : List ℕ) (f : ℕ → Bool) → (found ++ seats 0 f) ≡ all → found ≡ all
 unfolding seats
-found_all arr all count f e = sym (append-nil (take count arr)) ∙ e
+found_all found all f e = sym (append-nil found) ∙ e
 
 pub roots_below : (φ : FieldModel) (n : ℕ) (cs : List ℕ) → Below n (roots φ n cs)
 unfolding roots

@@ -1,33 +1,36 @@
 // Decoding within half the checks.
-ghost use Rattle.std.specs.Prelude.{◌≡◌, ℕ, ◌/◌, ◌<◌, ◌≤◌, length};
+ghost use Rattle.std.specs.Prelude.{◌≡◌, ℕ, ◌/◌, ◌<◌, ◌≤◌, false, length, None, IfSome};
 ghost use Rattle.reed_solomon_theory.specs.Promise.{Decoded};
+ghost use Rattle.reed_solomon.specs.Errors.{Corrects};
 ghost use Rattle.reed_solomon.specs.Words.{at};
 
-use crate::checks::{all_zero, checks_of};
-use crate::errors::{correct, errors_of, remaining_checks, roots_of};
+use crate::checks::{add_word, all_zero};
+use crate::errors::{SymbolError, errors_of, roots_of, take_errors};
 use crate::locator::locator;
+use arrayvec::ArrayVec;
 use field::Field;
 
-// Replaces the word by the code word that differs from it in at most half as many seats as there are checks, if there is one;
-// else leaves it, and says so.
-pub(crate) fn decode<F: Field>(field: &F, checks: usize, word: &mut [u8]) -> bool
+// The errors in the word, if there is a code word that differs from it in at most half as many seats as there are checks.
+pub(crate) fn errors_in<F: Field>(
+    field: &F,
+    checks: usize,
+    word: &[u8],
+) -> Option<ArrayVec<SymbolError, 4>>
     requires some { 0 < checks }
     requires few { checks ≤ 8 }
-    requires seats { length word.old ≤ (F.Field.model field.now).order }
-    requires codes { (i : ℕ) → i < length word.old → at word.old i < (F.Field.model field.now).order }
-    ensures { Decoded (F.Field.model field.now) (length word.old) checks (checks / 2) (at word.old) (at word.new) result }
+    requires seats { length word.now ≤ (F.Field.model field.now).order }
+    requires codes { (i : ℕ) → i < length word.now → at word.now i < (F.Field.model field.now).order }
+    ensures found { IfSome result (λ errors. Corrects (F.Field.model field.now) (length word.now) checks (at word.now) errors.items) }
+    ensures none { result ≡ None → Decoded (F.Field.model field.now) (length word.now) checks (checks / 2) (at word.now) (at word.now) false }
 {
-    let sums = checks_of(field, checks, word);
-    if all_zero(checks, &sums) {
-        return true;
+    let mut sums = [0; 8];
+    add_word(field, word, &mut sums[..checks]);
+    if all_zero(&sums[..checks]) {
+        return Some(ArrayVec::new());
     }
     let row = locator(field, &sums, checks / 2);
-    let found = roots_of(field, &row, word.len());
-    let values = errors_of(field, &found, &sums);
-    let rest = remaining_checks(field, checks, &found, &values, &sums);
-    if !all_zero(checks, &rest) {
-        return false;
-    }
-    correct(field, &found, &values, word);
-    true
+    let seats = roots_of(field, &row, word.len());
+    let errors = errors_of(field, &seats, &sums);
+    take_errors(field, &errors, &mut sums[..checks]);
+    all_zero(&sums[..checks]).then_some(errors)
 }

@@ -1,7 +1,7 @@
 // Extended Reed-Solomon codes over any field.
 #![tactic(auto)]
 
-ghost use Rattle.std.specs.Prelude.{◌≡◌, Some, None, Ok, Err};
+ghost use Rattle.std.specs.Prelude.{◌≡◌, cond, Some, None, IfOk, IfErr, OnOk};
 ghost use Rattle.reed_solomon.specs.Calls.{new_refusal};
 ghost use Rattle.reed_solomon.specs.Model.{reed_solomon, within_limits};
 ghost use Rattle.reed_solomon.specs.Meaning;
@@ -16,7 +16,8 @@ mod errors;
 mod locator;
 
 use checks::raise;
-use decoder::decode;
+use decoder::errors_in;
+use errors::correct;
 
 // The code of `size` symbols and `checks` checks. Seat i has the locator i, a code of the field, and check j has at a seat
 // the locator's power j. It has 1 to as many symbols as the field has codes, and 1 to 8 checks, no more than symbols;
@@ -48,15 +49,23 @@ impl<F: Field> ReedSolomon<F> {
             checks,
         }
     }
+
+    // A number of the code: 0 where there is no code.
+    fn counted(&self, number: usize) -> usize
+        ensures { result ≡ cond (within_limits (F.Field.model self.now.field).order self.now.size self.now.checks) number 0 }
+    {
+        if self.fits() { number } else { 0 }
+    }
 }
 
 impl<F: Field + Drop> ReedSolomon<F> {
     // A code within the limits over a field of a listed order. Refused with 1 or 3.
     pub fn new(field: F, size: usize, checks: usize) -> Result<ReedSolomon<F>, Refusal>
-        ensures { elim result [
-          | Ok c ↦ (new_refusal (F.Field.model field).order size checks ≡ None) × (c.field ≡ field) × (c.size ≡ size) × (c.checks ≡ checks)
-          | Err e ↦ new_refusal (F.Field.model field).order size checks ≡ Some e
-        ] }
+        ensures ok { OnOk result (new_refusal (F.Field.model field).order size checks ≡ None) }
+        ensures err { IfErr result (λ e. new_refusal (F.Field.model field).order size checks ≡ Some e) }
+        ensures field { IfOk result (λ c. c.field ≡ field) }
+        ensures size { IfOk result (λ c. c.size ≡ size) }
+        ensures checks { IfOk result (λ c. c.checks ≡ checks) }
     {
         let order = field.order();
         if !is_listed(order) {
@@ -81,15 +90,15 @@ impl<F: Field> ComponentCode for ReedSolomon<F> {
     }
 
     fn length(&self) -> usize {
-        if self.fits() { self.size } else { 0 }
+        self.counted(self.size)
     }
 
     fn checks(&self) -> usize {
-        if self.fits() { self.checks } else { 0 }
+        self.counted(self.checks)
     }
 
     fn radius(&self) -> usize {
-        if self.fits() { self.checks / 2 } else { 0 }
+        self.counted(self.checks / 2)
     }
 
     fn fits(&self) -> bool {
@@ -97,20 +106,23 @@ impl<F: Field> ComponentCode for ReedSolomon<F> {
     }
 
     fn coefficient(&self, check: usize, seat: usize) -> u8 {
-        if !self.fits() || check >= self.checks || seat >= self.size {
-            return 0;
+        if check < self.checks() && seat < self.length() {
+            raise(&self.field, seat as u8, check)
+        } else {
+            0
         }
-        raise(&self.field, seat as u8, check)
     }
 
     fn settle(&self, word: &mut [u8]) -> Decoding {
         if !self.fits() {
             return Decoding::Settled;
         }
-        if decode(&self.field, self.checks, word) {
-            Decoding::Settled
-        } else {
-            Decoding::Refused
+        match errors_in(&self.field, self.checks, word) {
+            Some(errors) => {
+                correct(&self.field, &errors, word);
+                Decoding::Settled
+            }
+            None => Decoding::Refused,
         }
     }
 }

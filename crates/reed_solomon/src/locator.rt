@@ -1,103 +1,75 @@
 // The locator polynomial: its roots are the locators of the wrong seats. A row is a polynomial of degree at most 4, the constant first.
-ghost use Rattle.std.specs.Prelude.{◌≡◌, ℕ, ◌+◌, ◌<◌, ◌≤◌, [], get_or, slice_index_or};
+ghost use Rattle.std.specs.Prelude.{◌≡◌, ℕ, ◌+◌, ◌<◌, ◌≤◌, [], not, ◌==◌, map, position, slice_index_or};
 ghost use Rattle.reed_solomon_theory.specs.Decode.{Locator, against, reciprocal};
 ghost use Rattle.reed_solomon_theory.specs.Elimination.{Basis, cleared};
+ghost use Rattle.arrayvec.specs.ArrayVec.{array_vec_len};
 ghost use Rattle.reed_solomon.specs.Words.{at};
 
+use arrayvec::ArrayVec;
 use field::Field;
+use std::array;
 
 // The inverse, and 0 for that of 0.
 pub(crate) fn inverse_or_zero<F: Field>(field: &F, a: u8) -> u8
     ensures { result ≡ reciprocal (F.Field.model field.now) a }
 {
-    match field.inverse(a) {
-        Some(inverse) => inverse,
-        None => 0,
-    }
+    field.inverse(a).unwrap_or(0)
 }
 
-// The sum of coefficient k times check j + k.
-fn against_at<F: Field>(field: &F, row: &[u8; 5], sums: &[u8; 8], j: usize) -> u8
-    requires { j < 4 }
-    ensures { result ≡ against (F.Field.model field.now) row.now (at sums.now) j }
+// A row against checks in order: the sum of each coefficient times the check in its place.
+fn against<F: Field>(field: &F, row: &[u8; 5], sums: &[u8; 5]) -> u8
+    ensures { result ≡ against (F.Field.model field.now) row.now (at sums.now) 0 }
 {
-    let mut value = 0;
-    for k in (0..5).rev() {
-        value = field.sum(field.product(row[k], sums[j + k]), value);
-    }
-    value
+    row.iter().zip(sums).fold(0, |value, (coefficient, sum)| {
+        field.sum(value, field.product(*coefficient, *sum))
+    })
 }
 
-// The row less the multiple of the pivot that makes it 0 against the checks from j on, where the pivot is v.
+// The row less the multiple of the pivot that makes it 0 against the checks, where the pivot is v.
 fn cleared_row<F: Field>(
     field: &F,
-    sums: &[u8; 8],
-    j: usize,
+    sums: &[u8; 5],
     v: u8,
     pivot: &[u8; 5],
     row: &[u8; 5],
 ) -> [u8; 5]
-    requires { j < 4 }
-    ensures { result ≡ cleared (F.Field.model field.now) (at sums.now) j v pivot.now row.now }
+    ensures { result ≡ cleared (F.Field.model field.now) (at sums.now) 0 v pivot.now row.now }
 {
     let factor = field.negative(field.product(
-        against_at(field, row, sums, j),
+        against(field, row, sums),
         inverse_or_zero(field, v),
     ));
-    let mut out = *row;
-    for k in 0..5 {
-        out[k] = field.sum(row[k], field.product(factor, pivot[k]));
-    }
-    out
+    array::from_fn(|k| field.sum(row[k], field.product(factor, pivot[k])))
 }
 
-// Row p goes, and the rows after it move up, cleared by it.
-fn clear_after<F: Field>(
-    field: &F,
-    sums: &[u8; 8],
-    j: usize,
-    v: u8,
-    p: usize,
-    rows: &mut [[u8; 5]; 5],
-    count: usize,
-)
-    requires { (j < 4) × ((p < count) × (count ≤ 5)) }
-    ensures before { (l : ℕ) → l < p → slice_index_or rows.new l [] ≡ slice_index_or rows.old l [] }
-    ensures after { (l : ℕ) → p ≤ l → l + 1 < count → slice_index_or rows.new l []
-        ≡ cleared (F.Field.model field.now) (at sums.now) j v (slice_index_or rows.old p []) (slice_index_or rows.old (l + 1) []) }
+// Clears the rows by the pivot.
+fn clear<F: Field>(field: &F, sums: &[u8; 5], pivot: &[u8; 5], rows: &mut [[u8; 5]])
+    ensures { rows.new ≡ map (cleared (F.Field.model field.now) (at sums.now) 0 (against (F.Field.model field.now) pivot.now (at sums.now) 0) pivot.now) rows.old }
 {
-    let pivot = rows[p];
-    for l in p + 1..count {
-        let row = rows[l];
-        rows[l - 1] = cleared_row(field, sums, j, v, &pivot, &row);
+    let v = against(field, pivot, sums);
+    for row in rows {
+        *row = cleared_row(field, sums, v, pivot, row);
     }
 }
 
-// Clears the rows, of degrees up to t, against the checks from j on, for which one row at most goes; tells how many are left.
-fn step<F: Field>(
-    field: &F,
-    sums: &[u8; 8],
-    t: usize,
-    j: usize,
-    rows: &mut [[u8; 5]; 5],
-    count: usize,
-) -> usize
-    requires small { j < 4 }
-    requires few { count ≤ 5 }
-    requires basis { Basis (F.Field.model field.now) (at sums.now) 5 (t + 1) j count (λ l. get_or rows.old l []) }
-    ensures after { Basis (F.Field.model field.now) (at sums.now) 5 (t + 1) (j + 1) result (λ l. get_or rows.new l []) }
-    ensures fewer { result ≤ count }
-    ensures enough { count ≤ result + 1 }
+// Where the first row is that is not 0 against the checks.
+fn pivot_at<F: Field>(field: &F, sums: &[u8; 5], rows: &[[u8; 5]]) -> Option<usize>
+    ensures { result ≡ position (λ row. not (against (F.Field.model field.now) row (at sums.now) 0 == 0)) rows.now }
 {
-    for p in 0..count {
-        let row = rows[p];
-        let v = against_at(field, &row, sums, j);
-        if v != 0 {
-            clear_after(field, sums, j, v, p, rows, count);
-            return count - 1;
-        }
+    rows.iter().position(|row| against(field, row, sums) != 0)
+}
+
+// Makes the rows 0 against the checks: the first that is not goes, and those after it are cleared by it.
+fn step<F: Field>(field: &F, sums: &[u8; 5], rows: &mut ArrayVec<[u8; 5], 5>)
+    ensures after { (s : ℕ → ℕ) (top j : ℕ) → ((k : ℕ) → k < 5 → s (j + k) ≡ at sums.now k)
+        → Basis (F.Field.model field.now) s 5 top j (array_vec_len rows.old) (λ l. slice_index_or rows.old.items l [])
+        → Basis (F.Field.model field.now) s 5 top (j + 1) (array_vec_len rows.new) (λ l. slice_index_or rows.new.items l []) }
+    ensures enough { array_vec_len rows.old ≤ array_vec_len rows.new + 1 }
+{
+    if let Some(p) = pivot_at(field, sums, rows) {
+        let pivot = rows.remove(p);
+        clear(field, sums, &pivot, &mut rows[p..]);
     }
-    count
 }
 
 // A polynomial of degree at most t, led by 1, that is 0 against the checks from each of 0 to t - 1 on.
@@ -105,16 +77,16 @@ pub(crate) fn locator<F: Field>(field: &F, sums: &[u8; 8], t: usize) -> [u8; 5]
     requires { t ≤ 4 }
     ensures { Locator (F.Field.model field.now) t (at sums.now) result }
 {
-    let mut rows = [
+    let mut rows = ArrayVec::from([
         [1, 0, 0, 0, 0],
         [0, 1, 0, 0, 0],
         [0, 0, 1, 0, 0],
         [0, 0, 0, 1, 0],
         [0, 0, 0, 0, 1],
-    ];
-    let mut count = t + 1;
-    for j in 0..t {
-        count = step(field, sums, t, j, &mut rows, count);
+    ]);
+    rows.truncate(t + 1);
+    for five in sums.array_windows().take(t) {
+        step(field, five, &mut rows);
     }
     rows[0]
 }

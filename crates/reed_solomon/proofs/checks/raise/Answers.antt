@@ -1,16 +1,11 @@
-use Rattle.std.proofs.Common.{ap, ◌∙◌, arith}
-use Rattle.reed_solomon_theory.specs.Code.{power}
-use Rattle.reed_solomon.proofs.Steps.{pow_none, pow_more}
+use Rattle.std.proofs.Common.{◌∙◌, refl, arith, rules}
+use Rattle.std.proofs.lemmas.Iterator.{YieldsList-from_range}
+use Rattle.std.proofs.lemmas.Iterator.Consumers.{fold_from_yields_List}
+use Rattle.reed_solomon.proofs.Folds.{power_is}
 use Rattle.reed_solomon.proofs.checks.raise.Goals as goal
 
-pub loop-k-init : goal.loop-k-init
-loop-k-init g c = pow_none (g.F.Field.model c.args.field.now) (g.met.F.Field.lawful c.args.field.now) c.args.code
-
-pub loop-k-preserved : goal.loop-k-preserved
-loop-k-preserved g c =
-    let φ = g.F.Field.model c.args.field.now in
-    let laws = g.met.F.Field.lawful c.args.field.now in
-    c.product-result.ensures ∙ ap (φ.prod c.args.code) c.loop-k.invariant ∙ pow_more φ laws c.args.code c.loop-k.k
-
 pub returns : goal.returns
-returns g c = c.loop-k.invariant ∙ ap (power (g.F.Field.model c.args.field.now) c.args.code) (omega arith)
+returns g c =
+    let φ = g.F.Field.model c.args.field.now in
+    fold_from_yields_List _ (λ p _. φ.prod c.args.code p) 1 c.fold.result c.fold.ensures.ran (YieldsList-from_range 0 c.args.exponent c.args.exponent refl (omega arith)) (λ a x b q k. search rules)
+    ∙ power_is φ c.args.code c.args.exponent

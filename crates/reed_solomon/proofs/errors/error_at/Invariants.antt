@@ -1,11 +1,11 @@
-use Rattle.std.proofs.Common.{◌≡◌, ℕ, length, take}
+use Rattle.std.proofs.Common.{◌≡◌, ℕ, take}
 use Rattle.reed_solomon_theory.specs.Decode.{shed_all, kill, without}
 use Rattle.reed_solomon.specs.Words.{at}
 use Rattle.reed_solomon.proofs.errors.error_at.Given as goal
 
-abbrev pub invariant-loop-k : goal.invariant-loop-k
-invariant-loop-k g l =
+abbrev pub invariant-loop-seat : goal.invariant-loop-seat
+invariant-loop-seat g l =
     let φ = g.F.Field.model l.field in
-    (length l.x ≡ 8)
-    × ((j : ℕ) → at l.x j ≡ shed_all φ (without l.m (take l.k l.found.seats)) (at l.sums) j)
-    × (l.divisor ≡ kill φ (without l.m (take l.k l.found.seats)) l.m)
+    let others = without l.m (take l.seat-index l.seats) in
+    ((j : ℕ) → at l.rest j ≡ shed_all φ others (at l.sums) j)
+    × (l.divisor ≡ kill φ others l.m)

@@ -1,59 +1,45 @@
-use Rattle.std.proofs.Common.{◌≡◌, ◌-◌, ◌<◌, eqb, ◌++◌, take, sym, refl, ap, ◌∙◌, arith, length-set}
+use Rattle.std.proofs.Common.{◌≡◌, ◌-◌, ◌<◌, eqb, ◌++◌, length, sym, ap, ◌∙◌, arith}
 use Rattle.std.proofs.lemmas.Bool.{eq-eqb, ne_eqb}
 use Rattle.reed_solomon_theory.specs.Decode.{value, roots}
 use Rattle.reed_solomon.proofs.Roots.{room, found_turn, passed_turn, found_all}
 use Rattle.reed_solomon.proofs.errors.roots_of.Goals as goal
 
-pub loop-i-init : goal.loop-i-init
-loop-i-init g c = (refl, omega arith, refl)
+pub loop-seat-init : goal.loop-seat-init
+loop-seat-init g c = ap (λ xs. xs ++ roots (g.F.Field.model c.args.field.now) c.args.n c.args.row.now) c.new-found.ensures
 
-pub bounds-seats-count : goal.bounds-seats-count
+pub push-requires : goal.push-requires
 unfolding roots
-bounds-seats-count g c =
+push-requires g c =
     let φ = g.F.Field.model c.args.field.now in
-    let laws = g.met.F.Field.lawful c.args.field.now in
-    let i = c.loop-i.i in
     let row = c.args.row.now in
-    room c.loop-i.seats (roots φ c.args.n row) c.loop-i.count i (λ i. eqb (value φ row i) 0)
-    c.loop-i.invariant.0 c.loop-i.invariant.1 c.loop-i.invariant.2 c.requires.few (omega arith) (eq-eqb (value φ row (i - 1)) 0 (sym c.value_at.ensures ∙ c.if-value_at-eq0.true))
+    let space : length c.loop-seat.found.items < 4 = room c.loop-seat.found.items (roots φ c.args.n row) c.loop-seat.seat (λ i. eqb (value φ row i) 0)
+    c.loop-seat.invariant c.requires.few (omega arith) (eq-eqb (value φ row (c.loop-seat.seat - 1)) 0 (sym c.value_at.ensures ∙ c.if-value_at-eq0.true)) in
+    (omega arith, space)
 
-pub loop-i-preserved-then-value_at-eq0 : goal.loop-i-preserved-then-value_at-eq0
+pub loop-seat-preserved-then-value_at-eq0 : goal.loop-seat-preserved-then-value_at-eq0
 unfolding roots
-loop-i-preserved-then-value_at-eq0 g c =
+loop-seat-preserved-then-value_at-eq0 g c =
     let φ = g.F.Field.model c.args.field.now in
-    let laws = g.met.F.Field.lawful c.args.field.now in
-    let i = c.loop-i.i in
+    let i = c.loop-seat.seat in
     let row = c.args.row.now in
-    let is = eq-eqb (value φ row (i - 1)) 0 (sym c.value_at.ensures ∙ c.if-value_at-eq0.true) in
-    let space : c.loop-i.count < 4 = room c.loop-i.seats (roots φ c.args.n row) c.loop-i.count i (λ i. eqb (value φ row i) 0)
-    c.loop-i.invariant.0 c.loop-i.invariant.1 c.loop-i.invariant.2 c.requires.few (omega arith) is in (
-      length-set c.loop-i.seats c.loop-i.count (i - 1) ∙ c.loop-i.invariant.0,
-      omega arith,
-      found_turn c.loop-i.seats (roots φ c.args.n row) c.loop-i.count i (λ i. eqb (value φ row i) 0) c.loop-i.invariant.0 space c.loop-i.invariant.2 (omega arith) is,
-    )
+    ap (λ xs. xs ++ roots φ (i - 1) row) c.push.ensures.items
+    ∙ found_turn c.loop-seat.found.items (roots φ c.args.n row) i (λ i. eqb (value φ row i) 0) c.loop-seat.invariant (omega arith)
+    (eq-eqb (value φ row (i - 1)) 0 (sym c.value_at.ensures ∙ c.if-value_at-eq0.true))
 
-pub loop-i-preserved : goal.loop-i-preserved
+pub loop-seat-preserved : goal.loop-seat-preserved
 unfolding roots
-loop-i-preserved g c =
+loop-seat-preserved g c =
     let φ = g.F.Field.model c.args.field.now in
-    let laws = g.met.F.Field.lawful c.args.field.now in
-    let i = c.loop-i.i in
-    let row = c.args.row.now in (
-      c.loop-i.invariant.0,
-      c.loop-i.invariant.1,
-      passed_turn c.loop-i.seats (roots φ c.args.n row) c.loop-i.count i (λ i. eqb (value φ row i) 0) c.loop-i.invariant.2 (omega arith)
-          (ne_eqb (value φ row (i - 1)) 0 (λ q. c.if-value_at-eq0.false (c.value_at.ensures ∙ q))),
-    )
+    let i = c.loop-seat.seat in
+    let row = c.args.row.now in
+    passed_turn c.loop-seat.found.items (roots φ c.args.n row) i (λ i. eqb (value φ row i) 0) c.loop-seat.invariant (omega arith)
+    (ne_eqb (value φ row (i - 1)) 0 (λ q. c.if-value_at-eq0.false (c.value_at.ensures ∙ q)))
 
 pub returns : goal.returns
 unfolding roots
 returns g c =
     let φ = g.F.Field.model c.args.field.now in
-    let laws = g.met.F.Field.lawful c.args.field.now in
     let row = c.args.row.now in
-    let none : c.loop-i.i ≡ 0 = omega arith in
-    record {
-      all = found_all c.loop-i.seats (roots φ c.args.n row) c.loop-i.count (λ i. eqb (value φ row i) 0)
-          (ap (λ i. take c.loop-i.count c.loop-i.seats ++ roots φ i row) (sym none) ∙ c.loop-i.invariant.2);
-      few = c.loop-i.invariant.1;
-    }
+    let none : c.loop-seat.seat ≡ 0 = omega arith in
+    found_all c.loop-seat.found.items (roots φ c.args.n row) (λ i. eqb (value φ row i) 0)
+    (ap (λ i. c.loop-seat.found.items ++ roots φ i row) (sym none) ∙ c.loop-seat.invariant)

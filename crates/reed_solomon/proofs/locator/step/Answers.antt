@@ -1,33 +1,14 @@
-use Rattle.std.proofs.Common.{◌+◌, [], get_or, sym, subst, arith, rules}
-use Rattle.reed_solomon_theory.specs.Elimination.{Basis}
-use Rattle.reed_solomon.specs.Words.{at}
-use Rattle.reed_solomon.proofs.Steps.{pivot_j, none_j}
+use Rattle.reed_solomon.proofs.Shift.{all_stay, one_goes}
 use Rattle.reed_solomon.proofs.locator.step.Goals as goal
 
-pub returns-then-v-ne0 : goal.returns-then-v-ne0
-returns-then-v-ne0 g c =
-    let φ = g.F.Field.model c.args.field.now in
-    let laws = g.met.F.Field.lawful c.args.field.now in
-    let s = at c.args.sums.now in
-    let rows = c.loop-p.rows in
-    record {
-      after = pivot_j φ laws s 5 (c.args.t + 1) c.args.j c.args.count c.loop-p.p c.against_at-v.result (λ l. get_or rows l []) (λ l. get_or c.clear_after.new.rows l [])
-          (subst (λ x. Basis φ s 5 (c.args.t + 1) c.args.j c.args.count (λ l. get_or x l [])) (sym c.loop-p.invariant.0) c.requires.basis)
-          (omega arith) c.loop-p.invariant.1 c.against_at-v.ensures c.if-v-ne0.true c.clear_after.ensures.before c.clear_after.ensures.after;
-      fewer = search rules;
-      enough = search rules;
-    }
+pub returns-in_default-clause-after : goal.returns-in_default-clause-after
+returns-in_default-clause-after g c =
+    λ s top j part. all_stay (g.F.Field.model c.args.field.now) (g.met.F.Field.lawful c.args.field.now) c.args.sums.now s top j part
+    c.args.rows.now.items c.deref.result.now c.pivot_at.result c.deref.ensures.0 c.pivot_at.ensures c.in_default.is
 
-pub returns : goal.returns
-returns g c =
-    let φ = g.F.Field.model c.args.field.now in
-    let laws = g.met.F.Field.lawful c.args.field.now in
-    let s = at c.args.sums.now in
-    let rows = c.loop-p.rows in
-    record {
-      after = none_j φ laws s 5 (c.args.t + 1) c.args.j c.args.count (λ l. get_or rows l [])
-          (subst (λ x. Basis φ s 5 (c.args.t + 1) c.args.j c.args.count (λ l. get_or x l [])) (sym c.loop-p.invariant.0) c.requires.basis)
-          (λ l h. c.loop-p.invariant.1 l (omega arith));
-      fewer = omega arith;
-      enough = omega arith;
-    }
+pub returns-in-Some-clause-after : goal.returns-in-Some-clause-after
+returns-in-Some-clause-after g c =
+    λ s top j part. one_goes (g.F.Field.model c.args.field.now) (g.met.F.Field.lawful c.args.field.now) c.args.sums.now s top j part
+    c.args.rows.now.items c.deref.result.now c.remove-pivot.new.self.items c.deref_mut.result.now c.clear.new.rows c.pivot_at.result c.in-Some.p
+    c.remove-pivot.result c.deref.ensures.0 c.pivot_at.ensures c.in-Some.is c.remove-pivot.ensures.value c.remove-pivot.ensures.items c.remove-pivot.ensures.len
+    c.deref_mut.ensures.value c.clear.ensures

@@ -1,9 +1,0 @@
-use Rattle.std.proofs.Common.{◌≡◌, ℕ, ◌<◌, length}
-use Rattle.reed_solomon_theory.specs.Code.{check}
-use Rattle.reed_solomon.specs.Words.{at}
-use Rattle.reed_solomon.proofs.checks.checks_of.Given as goal
-
-abbrev pub invariant-loop-seat : goal.invariant-loop-seat
-invariant-loop-seat g l =
-    (length l.sums ≡ 8)
-    × ((j : ℕ) → j < l.checks → at l.sums j ≡ check (g.F.Field.model l.field) l.seat (at l.word) j)
