@@ -1,9 +1,9 @@
 -- Code words by their sums of columns.
-use Rattle.std.specs.Prelude.{◌≡◌, ℕ, ◌+◌, ◌*◌, ◌<◌, ◌≤◌, Bool, true, false, ◌&&◌, ◌||◌, ltb, List, length, ◌==◌, bit_xor, nat_eq, nat_lt, slice_index, refl}
+use Rattle.std.specs.Prelude.{◌≡◌, ℕ, ◌+◌, ◌*◌, ◌≤◌, Bool, true, false, ◌&&◌, ◌||◌, ltb, List, length, ◌==◌, bit_xor, nat_eq, nat_lt, slice_index, refl}
 use Rattle.std.proofs.Math.Path.{sym, ap}
-use Rattle.std.proofs.Common.{ap₂, ◌∙◌, arith, lit≤}
+use Rattle.std.proofs.Common.{ap₂, ◌∙◌, ext_get_or, arith, lit≤}
 use Rattle.std.proofs.Math.Decide.{ℕ_discrete}
-use Rattle.std.proofs.lemmas.List.{same_lists, get_or_default}
+use Rattle.std.proofs.lemmas.List.{same_lists}
 use Rattle.std.proofs.lemmas.Bool.{and_parts, and_from, eq-eqb, eqb-true, lt-ltb, ltb-true}
 use Rattle.field.specs.Polynomials.{bit}
 use Rattle.field_theory.proofs.Lawful.{prime_lawful}
@@ -47,10 +47,7 @@ module _ (n t : ℕ) (small : n ≤ 16) (ok : (t == 1 || t == 2) ≡ true) where
   -- words that differ nowhere are equal
   same_words : (xs ys : List ℕ) → length xs ≡ n → length ys ≡ n → differ n xs ys ≡ 0 → xs ≡ ys
   same_words xs ys lx ly z =
-      same_lists xs ys (lx ∙ sym ly) (λ k d h.
-      let kn : k < n = omega arith in
-      let pick = sum_pick n (λ i. apart (at xs i) (at ys i)) k kn in
-      get_or_default xs k d 0 h ∙ apart_zero (at xs k) (at ys k) (omega arith) ∙ get_or_default ys k 0 d (omega arith))
+      ext_get_or 0 xs ys (lx ∙ sym ly) (λ k h. apart_zero (at xs k) (at ys k) (omega (arith, sum_pick n (λ i. apart (at xs i) (at ys i)) k (omega arith))))
 
   pub code_distance : (xs ys : List ℕ) → is_word code xs ≡ true → is_word code ys ≡ true → differ n xs ys ≤ 2 * t → xs ≡ ys
   code_distance xs ys hx hy l = go (ℕ_discrete (differ n xs ys) 0)

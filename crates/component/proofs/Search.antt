@@ -1,56 +1,54 @@
 -- The laws of decoding.
-use Rattle.std.proofs.Common.{◌≡◌, ℕ, zero, suc, ◌+◌, ◌<◌, ◌≤◌, Bool, true, false, ◌&&◌, eqb, ltb, leb, List, [], ◌∷◌, ◌++◌, map, length, get_or, Some, None, Option, sym, refl, ap, ◌∙◌, arith}
-use Rattle.std.proofs.lemmas.Bool.{and_parts, and_from, both_ways, eqb-true, ltb-true, leb-true, le-leb}
-use Rattle.std.specs.List.{range_with_len}
-use Rattle.ranges.specs.Ranges.{every, or_else, when, apart, differ}
+use Rattle.std.proofs.Common.{◌≡◌, ℕ, zero, suc, ◌+◌, ◌<◌, ◌≤◌, Bool, true, false, ◌&&◌, eqb, ltb, leb, List, [], ◌∷◌, ◌++◌, map, length, get_or, Some, None, Option, inl, inr, eq-or-lt_of_le, sym, refl, ap, ◌∙◌, arith}
+use Rattle.std.proofs.lemmas.Bool.{and_parts, and_from, eqb-true, ltb-true, leb-true, le-leb}
+use Rattle.std.proofs.lemmas.List.Folds.{find-append}
+use Rattle.std.specs.List.{range_with_len, find, flat_map}
+use Rattle.std.specs.Option.{option_or}
+use Rattle.ranges.specs.Ranges.{every, apart, differ}
 use Rattle.ranges.proofs.Sums.{sum_lin}
 use Rattle.component.specs.Model.{CodeModel, is_word, check_sum}
-use Rattle.component.specs.Decoding.{extended, all_words, first_that, near, decoded, DecodedNear, RefusedFar, DecodedOnly}
+use Rattle.component.specs.Decoding.{all_words, near, decoded, DecodedNear, RefusedFar, DecodedOnly}
 use Rattle.ranges.proofs.Tests.{every_at, apart_zero, apart_le}
 
 -- what is found passes the test
-found_passes : (f : List ℕ → Bool) (ws : List (List ℕ)) (w : List ℕ) → first_that f ws ≡ Some w → f w ≡ true
-found_passes f [] w h = absurd (let z : ◌≡◌ {A = ℕ} 0 1 = cc in omega arith)
+found_passes : (f : List ℕ → Bool) (ws : List (List ℕ)) (w : List ℕ) → find f ws ≡ Some w → f w ≡ true
+found_passes f [] w h = grind arith
 found_passes f (v ∷ ws) w h = go (f v) refl (found_passes f ws w)
   where
-    go : (b : Bool) → f v ≡ b → (first_that f ws ≡ Some w → f w ≡ true) → f w ≡ true
-    go true e r = let k : or_else (when true v) (first_that f ws) ≡ Some w = rw e at h in let m : v ≡ w = cc in rw m at e
+    go : (b : Bool) → f v ≡ b → (find f ws ≡ Some w → f w ≡ true) → f w ≡ true
+    go true e r = let k : Some v ≡ Some w = rw e at h in let m : v ≡ w = cc in rw m at e
     go false e r = r (rw e at h)
 
-none_both : (f : List ℕ → Bool) (us vs : List (List ℕ)) → first_that f (us ++ vs) ≡ None → (first_that f us ≡ None) × (first_that f vs ≡ None)
-none_both f [] vs h = (refl, h)
-none_both f (u ∷ us) vs h = go (f u) refl (none_both f us vs)
+none_both : (f : List ℕ → Bool) (us vs : List (List ℕ)) → find f (us ++ vs) ≡ None → (find f us ≡ None) × (find f vs ≡ None)
+none_both f us vs h = go (find f us) refl
   where
-    Goal : Type 0
-    Goal = (first_that f (u ∷ us) ≡ None) × (first_that f vs ≡ None)
-
-    go : (b : Bool) → f u ≡ b → (first_that f (us ++ vs) ≡ None → (first_that f us ≡ None) × (first_that f vs ≡ None)) → (first_that f (u ∷ us) ≡ None) × (first_that f vs ≡ None)
-    go true e r = let k : or_else (when true u) (first_that f (us ++ vs)) ≡ None = rw e at h in absurd (let z : ◌≡◌ {A = ℕ} 0 1 = cc in omega arith)
-    go false e r = let p = r (rw e at h) in (rw e p.0, p.1)
+    go : (o : Option (List ℕ)) → find f us ≡ o → (find f us ≡ None) × (find f vs ≡ None)
+    go None e = (e, sym (find-append f us vs ∙ ap (λ o. option_or o (find f vs)) e) ∙ h)
+    go (Some w) e = grind (arith, find-append f us vs)
 
 -- the test of the longer word is a test of the shorter one
-none_after : (f : List ℕ → Bool) (x : ℕ) (ws : List (List ℕ)) → first_that f (map (λ (w : List ℕ). x ∷ w) ws) ≡ None → first_that (λ w. f (x ∷ w)) ws ≡ None
+none_after : (f : List ℕ → Bool) (x : ℕ) (ws : List (List ℕ)) → find f (map (λ (w : List ℕ). x ∷ w) ws) ≡ None → find (λ w. f (x ∷ w)) ws ≡ None
 none_after f x [] h = refl
 none_after f x (w ∷ ws) h = go (f (x ∷ w)) refl (none_after f x ws)
   where
-    go : (b : Bool) → f (x ∷ w) ≡ b → (first_that f (map (λ (v : List ℕ). x ∷ v) ws) ≡ None → first_that (λ v. f (x ∷ v)) ws ≡ None) → first_that (λ v. f (x ∷ v)) (w ∷ ws) ≡ None
-    go true e r = let k : or_else (when true (x ∷ w)) (first_that f (map (λ (v : List ℕ). x ∷ v) ws)) ≡ None = rw e at h in absurd (let z : ◌≡◌ {A = ℕ} 0 1 = cc in omega arith)
+    go : (b : Bool) → f (x ∷ w) ≡ b → (find f (map (λ (v : List ℕ). x ∷ v) ws) ≡ None → find (λ v. f (x ∷ v)) ws ≡ None) → find (λ v. f (x ∷ v)) (w ∷ ws) ≡ None
+    go true e r = let k : Some (x ∷ w) ≡ None = rw e at h in grind arith
     go false e r = rw e (r (rw e at h))
 
-none_each : (f : List ℕ → Bool) (ws : List (List ℕ)) (a n : ℕ) → first_that f (extended (range_with_len a n) ws) ≡ None
-    → (x : ℕ) → a ≤ x → x < a + n → first_that (λ w. f (x ∷ w)) ws ≡ None
+none_each : (f : List ℕ → Bool) (ws : List (List ℕ)) (a n : ℕ) → find f (flat_map (λ x. map (λ (w : List ℕ). x ∷ w) ws) (range_with_len a n)) ≡ None
+    → (x : ℕ) → a ≤ x → x < a + n → find (λ w. f (x ∷ w)) ws ≡ None
 none_each f ws a zero h x l k = absurd (omega arith)
 none_each f ws a (suc n) h x l k =
-    let p = none_both f (map (λ (w : List ℕ). a ∷ w) ws) (extended (range_with_len (a + 1) n) ws) h in
-    elim (lib.Dec.eqb a x) as (λ b. eqb a x ≡ b → first_that (λ w. f (x ∷ w)) ws ≡ None) [
-      | true ↦ λ e. let m = eqb-true a x e in rw (← m) (none_after f a ws p.0)
-      | false ↦ λ e. none_each f ws (a + 1) n p.1 x (omega (arith, Rattle.std.proofs.lemmas.Bool.eqb-false a x e)) (omega arith)
-    ] refl
+    let p = none_both f (map (λ (w : List ℕ). a ∷ w) ws) (flat_map (λ x. map (λ (w : List ℕ). x ∷ w) ws) (range_with_len (a + 1) n)) h in
+    elim (eq-or-lt_of_le l) [
+      | inl m ↦ rw (← m) (none_after f a ws p.0)
+      | inr q ↦ none_each f ws (a + 1) n p.1 x (omega arith) (omega arith)
+    ]
 
 -- a word over the field is among all words
-pub none_word : (q n : ℕ) (f : List ℕ → Bool) → first_that f (all_words q n) ≡ None
+pub none_word : (q n : ℕ) (f : List ℕ → Bool) → find f (all_words q n) ≡ None
     → (w : List ℕ) → length w ≡ n → ((i : ℕ) → i < n → get_or w i 0 < q) → f w ≡ true → ⊥
-none_word q zero f h [] e k t = let g : or_else (when true []) None ≡ None = rw t at h in let z : ◌≡◌ {A = ℕ} 0 1 = cc in omega arith
+none_word q zero f h [] e k t = let g : Some [] ≡ None = rw t at h in grind arith
 none_word q zero f h (x ∷ w) e k t = omega arith
 none_word q (suc n) f h [] e k t = omega arith
 none_word q (suc n) f h (x ∷ w) e k t =

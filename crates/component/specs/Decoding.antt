@@ -1,23 +1,13 @@
 -- Decoding within the radius, with no algorithm.
-use Rattle.std.specs.Prelude.{◌≡◌, ℕ, zero, suc, ◌≤◌, Bool, true, ◌&&◌, List, [], ◌∷◌, ◌++◌, map, Some, None, Option, nat_le}
-use Rattle.ranges.specs.Ranges.{differ, or_else, when}
+use Rattle.std.specs.Prelude.{◌≡◌, ℕ, zero, suc, ◌≤◌, Bool, true, ◌&&◌, List, [], ◌∷◌, map, Some, None, Option, nat_le, find, flat_map}
+use Rattle.ranges.specs.Ranges.{differ}
 use Rattle.component.specs.Model.{CodeModel, CodeLaws, is_word}
 use Rattle.std.specs.List.{range_with_len}
-
--- each of the symbols put before each of the words
-abbrev pub extended : List ℕ → List (List ℕ) → List (List ℕ)
-extended [] ws = []
-extended (x ∷ xs) ws = map (λ (w : List ℕ). x ∷ w) ws ++ extended xs ws
 
 -- all words of n symbols below q
 abbrev pub all_words : ℕ → ℕ → List (List ℕ)
 all_words q zero = [] ∷ []
-all_words q (suc n) = extended (range_with_len 0 q) (all_words q n)
-
--- the first of a list that passes the test
-abbrev pub first_that : (List ℕ → Bool) → List (List ℕ) → Option (List ℕ)
-first_that f [] = None
-first_that f (w ∷ ws) = or_else (when (f w) w) (first_that f ws)
+all_words q (suc n) = flat_map (λ x. map (λ (w : List ℕ). x ∷ w) (all_words q n)) (range_with_len 0 q)
 
 -- ys is a code word that differs from xs in at most the radius
 abbrev pub near : CodeModel → List ℕ → List ℕ → Bool
@@ -25,7 +15,7 @@ near c xs ys = is_word c ys && nat_le (differ c.size xs ys) c.radius
 
 -- the code word that differs from xs in at most the radius, if there is one
 unfoldable pub decoded : CodeModel → List ℕ → Option (List ℕ)
-decoded c xs = first_that (near c xs) (all_words c.field.order c.size)
+decoded c xs = find (near c xs) (all_words c.field.order c.size)
 
 -- the decoded word, or the word itself where decoding refuses
 abbrev pub kept_or : List ℕ → Option (List ℕ) → List ℕ

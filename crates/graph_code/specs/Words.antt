@@ -1,5 +1,5 @@
 -- Words of a graph code.
-use Rattle.std.specs.Prelude.{◌≡◌, ℕ, ◌<◌, Bool, true, not, List, length, Some, None, Option, slice_index}
+use Rattle.std.specs.Prelude.{◌≡◌, ℕ, ◌<◌, Bool, true, not, List, length, None, Option, slice_index, option_map}
 use Rattle.refusal.specs.declared.Vertex.{Vertex}
 use Rattle.refusal.specs.declared.Vertex.TheVariants.{Point, Line}
 use Rattle.ranges.specs.Ranges.{tabulate, or_else, first_below}
@@ -26,18 +26,13 @@ pub record CodeWord (k : GraphModel) (w : List ℕ) : Type 0 where
   pub size : length w ≡ symbols k
   pub passes : (s : Side) → PassesOn (side k s) w
 
--- what f makes of a number, if there is one
-abbrev pub named : {X : Type 0} → (ℕ → X) → Option ℕ → Option X
-named f (Some v) = Some (f v)
-named f None = None
-
 -- the first vertex of a side at which a word fails
 unfoldable pub first_failing_on : SideModel → List ℕ → Option ℕ
 first_failing_on σ w = first_below σ.vertices (λ v. not (passes_at σ w v))
 
 -- the first vertex at which a word fails, points before lines
 unfoldable pub first_failing : GraphModel → List ℕ → Option Vertex
-first_failing k w = or_else (named Point (first_failing_on (side k Points) w)) (named Line (first_failing_on (side k Lines) w))
+first_failing k w = or_else (option_map Point (first_failing_on (side k Points) w)) (option_map Line (first_failing_on (side k Lines) w))
 
 -- no vertex is the first to fail exactly where the word passes everywhere
 abbrev pub NoneFails : Type 0

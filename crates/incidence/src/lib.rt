@@ -2,22 +2,22 @@
 #![tactic(auto)]
 
 ghost use Rattle.geometry.specs.Incidence.{On};
-ghost use Rattle.std.specs.Prelude.{MatchBool};
+ghost use Rattle.geometry.specs.Model.{edge_at, line_of};
+ghost use Rattle.std.specs.Prelude.{◌≡◌, ◌↔◌, IsTrue, option_map};
 
 use geometry::Geometry;
 
+// The line of the edge at a seat of a point; absent where that edge is.
+fn line_at<G: Geometry>(geometry: &G, point: usize, seat: usize) -> Option<usize>
+    ensures { result ≡ option_map (line_of (G.Geometry.model geometry.now)) (edge_at (G.Geometry.model geometry.now) point seat) }
+{
+    let edge = geometry.edge_at(point, seat)?;
+    Some(edge / geometry.line_degree())
+}
+
 // Whether the point lies on the line: whether one of its edges does.
 pub fn lies_on<G: Geometry>(geometry: &G, point: usize, line: usize) -> bool
-    ensures { MatchBool result (On (G.Geometry.model geometry.now) point line) (On (G.Geometry.model geometry.now) point line → ⊥) }
+    ensures { IsTrue result ↔ On (G.Geometry.model geometry.now) point line }
 {
-    let points_on_line = geometry.line_degree();
-    for seat in 0..geometry.point_degree() {
-        let Some(edge) = geometry.edge_at(point, seat) else {
-            return false;
-        };
-        if edge / points_on_line == line {
-            return true;
-        }
-    }
-    false
+    (0..geometry.point_degree()).any(|seat| line_at(geometry, point, seat) == Some(line))
 }

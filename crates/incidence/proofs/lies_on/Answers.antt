@@ -1,10 +1,13 @@
-use Rattle.std.proofs.Common.{arith}
-use Rattle.geometry.proofs.Derived.{at_seat}
+use Rattle.std.proofs.Common.{rules, refl, arith}
+use Rattle.std.proofs.lemmas.Iterator.{cases_from_any, YieldsList-from_range}
+use Rattle.incidence.proofs.Seats.{Joins, joined}
 use Rattle.incidence.proofs.lies_on.Goals as goal
 
 pub returns : goal.returns
-returns g c on =
+returns g c =
     let m = g.G.Geometry.model c.args.geometry.now in
-    let s = at_seat m (g.met.G.Geometry.lawful c.args.geometry.now) c.args.point c.args.line on in
-    let h = s.1 in
-    c.loop-seat.invariant s.0 (omega arith) s.2
+    let laws = g.met.G.Geometry.lawful c.args.geometry.now in
+    let joins = Joins m laws c.args.point c.args.line in
+    let n = c.point_degree.result in
+    joined m laws c.args.point c.args.line n c.point_degree.ensures c.any.result
+    (cases_from_any _ _ c.any.result joins (λ i. joins i → ⊥) c.any.ensures.ran (YieldsList-from_range 0 n n refl (omega arith)) (λ x q k. search rules) (λ x q k. search rules))
