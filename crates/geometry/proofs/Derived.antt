@@ -1,20 +1,17 @@
 -- What follows at once from the laws of a geometry.
-use Rattle.std.proofs.Common.{◌≡◌, ℕ, ◌+◌, ◌*◌, ◌%◌, ◌<◌, sym, refl, ap, ◌∙◌, subst, mod-lt, div-lt_iff_lt-mul, div-add-mod'}
+use Rattle.std.proofs.Common.{◌≡◌, ℕ, ◌+◌, ◌*◌, ◌%◌, ◌<◌, sym, refl, ap, ◌∙◌, subst, mod-lt, div-add-mod'}
 use lib.Arith.{digits_lt, digits_div, digits_mod}
+use Rattle.std.proofs.lemmas.Nat.{div_below}
 use Rattle.geometry.specs.Model.{GeometryModel, edges, line_of}
 use Rattle.geometry.specs.Incidence.{On}
 use Rattle.geometry.specs.Laws.{GeometryLaws}
-
--- the line of an edge is not beyond the last
-pub line_in : (g : GeometryModel) → 0 < g.line_degree → (e : ℕ) → e < edges g → line_of g e < g.lines
-line_in g h e he = (div-lt_iff_lt-mul {k = g.line_degree} {x = e} {y = g.lines} h).1 he
 
 module _ (g : GeometryModel) (laws : GeometryLaws g) where
   -- what is incident is not beyond the last
   pub on_in : (p l : ℕ) → On g p l → (p < g.points) × (l < g.lines)
   on_in p l o = (
     subst (λ n. n < g.points) o.2 (laws.point_in o.0 o.1),
-    subst (λ n. n < g.lines) o.3 (line_in g laws.some_line_degree o.0 o.1),
+    subst (λ n. n < g.lines) o.3 (div_below o.0 g.line_degree g.lines laws.some_line_degree o.1),
   )
 
   -- the edge at each seat of a point lies on it and on its line

@@ -2,12 +2,13 @@
 use Rattle.std.proofs.Common.{◌≡◌, ℕ, zero, suc, ◌+◌, ◌*◌, ◌/◌, ◌%◌, ◌<◌, ◌≤◌, Bool, true, false, cond, ltb, Some, None, Option, sym, refl, ap, ◌∙◌, subst, ap₂, mod-lt, div-add-mod', arith}
 use native.Mathlib.Decide.{dec_lt}
 use Rattle.std.proofs.lemmas.Bool.{ltb-true}
+use Rattle.std.proofs.lemmas.Nat.{div_below}
 use Rattle.geometry.specs.Model.{GeometryModel, edges, line_of}
 use Rattle.geometry.specs.Incidence.{On}
 use Rattle.geometry.specs.Laws.{GeometryLaws}
 use Rattle.geometry.specs.Seats.{Rising}
 use Rattle.geometry.specs.Agreement.{Agree}
-use Rattle.geometry.proofs.Derived.{line_in, edge_on, seat_on, at_seat, at_place}
+use Rattle.geometry.proofs.Derived.{edge_on, seat_on, at_seat, at_place}
 
 -- a row of s numbers that rise, and one whose members are all in another
 abbrev Rows : ℕ → (ℕ → ℕ) → Type 0
@@ -106,7 +107,7 @@ module _ (g h : GeometryModel) (L : GeometryLaws g) (M : GeometryLaws h) (R : Ri
   same_point e he =
       let u = g.line_degree in
       ap g.point (sym (div-add-mod' e u))
-      ∙ same_seat_point (e / u) (e % u) (line_in g L.some_line_degree e he) (mod-lt e L.some_line_degree)
+      ∙ same_seat_point (e / u) (e % u) (div_below e u g.lines L.some_line_degree he) (mod-lt e L.some_line_degree)
       ∙ ap (λ v. h.point (e / u * v + e % u)) (sym A.line_degrees_alike) ∙ ap h.point (div-add-mod' e u)
 
   same_edge : (p i : ℕ) → p < g.points → i < g.point_degree → g.edge p i ≡ h.edge p i

@@ -10,9 +10,8 @@ use Rattle.field.proofs.Slopes.{slopes}
 use Rattle.geometry.specs.Model.{GeometryModel}
 use Rattle.geometry.specs.Incidence.{On}
 use Rattle.geometry.specs.Layouts.{Layout}
-use Rattle.geometry.proofs.Derived.{on_in}
-use Rattle.geometry.proofs.Laid.{laid_lawful, laid_rising, on_inc, inc_on}
-use Rattle.geometry.proofs.Pinned.{pinned}
+use Rattle.geometry.proofs.Laid.{laid_lawful, laid_rising, by_rule}
+use Rattle.geometry.proofs.Only.{only}
 use Rattle.geometry.proofs.Sides.{Side, LayoutLaws}
 use Rattle.radix.specs.Digits.{first, second, third, number}
 use Rattle.radix.proofs.Radix.{first_is, second_is, third_is, number_is, number_lt, number_rise, first_lt, same_number, read}
@@ -53,12 +52,6 @@ module _ (φ : FieldModel) (laws : FieldLaws φ) where
   incs x y z a b c hy hz hb hc e h = (
     ap₂ sum (second_is q x y z hy hz) (second_is q a b c hb hc) ∙ e ∙ sym (ap₂ prod (first_is q a b c hb hc) (first_is q x y z hy hz)),
     ap₂ sum (third_is q x y z hz) (third_is q a b c hc) ∙ h ∙ sym (ap₂ prod (first_is q x y z hy hz) (second_is q a b c hb hc)),
-  )
-
-  pub inc_out : (x y z a b c : ℕ) → y < q → z < q → b < q → c < q → Inc φ (number q x y z) (number q a b c) → (sum y b ≡ prod a x) × (sum z c ≡ prod x b)
-  inc_out x y z a b c hy hz hb hc i = (
-    sym (ap₂ sum (second_is q x y z hy hz) (second_is q a b c hb hc)) ∙ i.0 ∙ ap₂ prod (first_is q a b c hb hc) (first_is q x y z hy hz),
-    sym (ap₂ sum (third_is q x y z hz) (third_is q a b c hc)) ∙ i.1 ∙ ap₂ prod (first_is q x y z hy hz) (second_is q a b c hb hc),
   )
 
   -- each line through a point is found by its slope, and each point of a line by its place
@@ -137,42 +130,25 @@ module _ (φ : FieldModel) (laws : FieldLaws φ) where
     lines_are = refl;
     point_degree_is = refl;
     line_degree_is = refl;
-    incidence = λ x y z a b c hx hy hz ha hb hc. (
-      λ o. inc_out x y z a b c hy hz hb hc
-          (on_inc plan (Inc φ) keeps (number q x y z) (number q a b c) (subst (λ n. On (quadrangle φ) n (number q a b c)) (read q x y z) (subst (λ n. On (quadrangle φ) (q * q * x + q * y + z) n) (read q a b c) o))).2,
-      λ e. subst (λ n. On (quadrangle φ) (q * q * x + q * y + z) n) (sym (read q a b c)) (subst (λ n. On (quadrangle φ) n (number q a b c)) (sym (read q x y z))
-          (inc_on plan (Inc φ) keeps (number q x y z) (number q a b c) (number_lt q x y z hx hy hz) (number_lt q a b c ha hb hc) (incs x y z a b c hy hz hb hc e.0 e.1))),
-    );
+    incidence = λ x y z a b c hx hy hz ha hb hc.
+        rw (read q x y z, read q a b c)
+        (simp (first_is q x y z hy hz, second_is q x y z hy hz, third_is q x y z hz, first_is q a b c hb hc, second_is q a b c hb hc, third_is q a b c hc)
+        at (by_rule plan (Inc φ) keeps (number q x y z) (number q a b c) (number_lt q x y z hx hy hz) (number_lt q a b c ha hb hc)));
     rising = laid_rising plan (Inc φ) keeps;
     lawful = laid_lawful plan (Inc φ) keeps;
   }
 
-  -- what is incident in one quadrangle is incident in any other
-  carried : (g h : GeometryModel) → IsQuadrangle φ g → IsQuadrangle φ h → (p l : ℕ) → On g p l → On h p l
-  carried g h G H p l o =
-      let b = on_in g G.lawful p l o in
-      let hp : p < q * q * q = subst (λ n. p < n) G.points_are b.0 in
-      let hl : l < q * q * q = subst (λ n. l < n) G.lines_are b.1 in
-      let ep : q * q * X p + q * Y p + Z p ≡ p = read q (X p) (Y p) (Z p) ∙ number_is q p in
-      let el : q * q * X l + q * Y l + Z l ≡ l = read q (X l) (Y l) (Z l) ∙ number_is q l in
-      let x = first_lt q p pos hp in
-      let a = first_lt q l pos hl in
-      let o' : On g (q * q * X p + q * Y p + Z p) (q * q * X l + q * Y l + Z l) =
-      subst (λ n. On g n (q * q * X l + q * Y l + Z l)) (sym ep) (subst (On g p) (sym el) o) in
-      subst (On h p) el (subst (λ n. On h n (q * q * X l + q * Y l + Z l)) ep
-      ((H.incidence (X p) (Y p) (Z p) (X l) (Y l) (Z l) x (second_lt p) (third_lt p) a (second_lt l) (third_lt l)).1
-      ((G.incidence (X p) (Y p) (Z p) (X l) (Y l) (Z l) x (second_lt p) (third_lt p) a (second_lt l) (third_lt l)).0 o')))
-
   pub only_quadrangle : OnlyQuadrangle φ (quadrangle φ)
-  only_quadrangle h H =
-      let G = is_quadrangle in
-      pinned h (quadrangle φ) H.lawful G.lawful H.rising G.rising
-      (record {
-        orders_alike = H.order_is;
-        points_alike = H.points_are;
-        lines_alike = H.lines_are;
-        point_degrees_alike = H.point_degree_is;
-        line_degrees_alike = H.line_degree_is;
-        on_alike = carried h (quadrangle φ) H G;
-        alike_on = carried (quadrangle φ) h G H;
-      })
+  only_quadrangle h H = only plan (Inc φ) keeps h (record {
+    lawful = H.lawful;
+    rising = H.rising;
+    order_is = H.order_is;
+    points_are = H.points_are;
+    lines_are = H.lines_are;
+    point_degree_is = H.point_degree_is;
+    line_degree_is = H.line_degree_is;
+    rule = λ p l hp hl. (
+      _, _, read q (X p) (Y p) (Z p) ∙ number_is q p, read q (X l) (Y l) (Z l) ∙ number_is q l,
+      H.incidence (X p) (Y p) (Z p) (X l) (Y l) (Z l) (first_lt q p pos hp) (second_lt p) (third_lt p) (first_lt q l pos hl) (second_lt l) (third_lt l),
+    );
+  })
