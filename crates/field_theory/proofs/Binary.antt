@@ -65,7 +65,7 @@ module _ (m p : ℕ) (hp : p < 2 ^ m) (hm : 0 < m) (binary : among (2 ^ m) prime
   reads_left a x = by_horner a x ∙ ap (λ y. mul y (c x)) (sym (c_c a)) ∙ sym (by_horner (c a) x)
 
   -- given inverses, by a list
-  module _ (small : 2 ^ m ≤ 256) (table : List ℕ) (size : length table ≡ 2 ^ m) (test : T (every (undone (2 ^ m)) 0 table)) where
+  module _ (small : 2 ^ m ≤ 256) (table : List ℕ) (size : length table ≡ 2 ^ m) (test : T (every (undone (2 ^ m)) table)) where
     abbrev model : FieldModel
     model = record { order = 2 ^ m; sum = binary_sum (2 ^ m); neg = c; prod = λ a b. mul (c a) (c b); inv = defined_inv (2 ^ m) }
 

@@ -1,21 +1,17 @@
 -- What is defined for each listed order is a field.
 use Rattle.std.proofs.Common.{ℕ, Bool, true, false, ◌||◌, T, eqb, List, [], ◌∷◌, sym, refl, subst, lit<, lit≤, eqb→eq}
+use Rattle.std.specs.List.{AllByRecursion}
 use Rattle.field.specs.Polynomials.{bit, scaled, poly_product, remainder}
 use Rattle.field.specs.Defined.{among, prime_orders, binary_orders, degree, modulus, defined_prod, defined_field}
 use Rattle.field.specs.Laws.{FieldLaws, DefinedFieldsAreLawful}
 use Rattle.field_theory.proofs.Modular.{modular_lawful}
 use Rattle.field_theory.proofs.Binary.{binary_lawful}
 
--- P holds of each number of a list
-abbrev pub Each : (ℕ → Type 0) → List ℕ → Type 0
-Each P [] = Unit {0}
-Each P (x ∷ xs) = P x × Each P xs
-
 pub either_way : (C : Type 0) (x y : Bool) → T (x || y) → (T x → C) → (T y → C) → C
 either_way C true y t left right = left tt
 either_way C false y t left right = right t
 
-pub each_at : (P : ℕ → Type 0) (xs : List ℕ) → Each P xs → (q : ℕ) → T (among q xs) → P q
+pub each_at : (P : ℕ → Type 0) (xs : List ℕ) → AllByRecursion P xs → (q : ℕ) → T (among q xs) → P q
 each_at P [] e q t = absurd t
 each_at P (x ∷ xs) e q t =
     either_way (P q) (eqb q x) (among q xs) t (λ s. subst P (sym (eqb→eq q x s)) e.0) (λ s. each_at P xs e.1 q s)
