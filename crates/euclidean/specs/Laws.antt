@@ -40,11 +40,11 @@ module _ (φ : FieldModel) (laws : FieldLaws φ) where
     at_inc = λ p i hp hi.
         let b = minus φ (p % q) (prod i (p / q)) in
         let hb : b < q = sum_code _ _ in
-        sym (ap₂ (λ h r. sum (prod h (p / q)) r) (digits_div i hb) (digits_mod i hb) ∙ plus_minus φ laws (prod i (p / q)) (p % q) (mod-lt p pos));
+        cc (digits_div i hb, digits_mod i hb, plus_minus φ laws (prod i (p / q)) (p % q) (mod-lt p pos));
     at_rise = λ p i j hp lt hj. digits_rise i j q _ _ lt (sum_code _ _);
     seat_in = λ p l hp hl inc. div_below l q q pos hl;
     at_seat = λ p l hp hl inc.
-        ap (λ b. l / q * q + b) (ap (λ z. minus φ z (prod (l / q) (p / q))) inc ∙ minus_plus φ laws (prod (l / q) (p / q)) (l % q) (mod-lt l pos)) ∙ div-add-mod' l q;
+        cc (minus_plus φ laws (prod (l / q) (p / q)) (l % q) (mod-lt l pos), div-add-mod' l q);
   }
 
   by_lines : Side (q * q) (q * q) q (λ l p. Inc p l) plan.point_on plan.seat_on
@@ -53,10 +53,10 @@ module _ (φ : FieldModel) (laws : FieldLaws φ) where
     at_inc = λ l j hl hj.
         let b = sum (prod (l / q) j) (l % q) in
         let hb : b < q = sum_code _ _ in
-        digits_mod j hb ∙ ap (λ x. sum (prod (l / q) x) (l % q)) (sym (digits_div j hb));
+        cc (digits_mod j hb, digits_div j hb);
     at_rise = λ l i j hl lt hj. digits_rise i j q _ _ lt (sum_code _ _);
     seat_in = λ l p hl hp inc. div_below p q q pos hp;
-    at_seat = λ l p hl hp inc. ap (λ b. p / q * q + b) (sym inc) ∙ div-add-mod' p q;
+    at_seat = λ l p hl hp inc. cc (div-add-mod' p q);
   }
 
   keeps : LayoutLaws plan Inc

@@ -1,6 +1,5 @@
 -- A layout that keeps to a rule of incidence is a lawful geometry with that incidence and rising seats.
 use Rattle.std.proofs.Common.{◌≡◌, ℕ, ◌+◌, ◌*◌, ◌/◌, ◌%◌, ◌<◌, ◌↔◌, sym, refl, ap, ◌∙◌, subst, ap₂, mod-lt, div-add-mod', arith}
-use native.Mathlib.Decide.{dec_lt}
 use lib.Arith.{digits_lt, digits_div, digits_mod}
 use Rattle.std.proofs.lemmas.Nat.{div_below}
 use Rattle.geometry.specs.Model.{GeometryModel, edges}
@@ -14,16 +13,11 @@ module _ (n m s : ℕ) (Inc : ℕ → ℕ → Type 0) (at seat : ℕ → ℕ →
   -- the seat of what stands at a seat is that seat, since the vertices opposite rise
   pub seat_is : (v i : ℕ) → v < n → i < s → seat v (at v i) ≡ i
   seat_is v i hv hi =
-      let w = at v i in
-      let hw = S.at_in v i hv hi in
+      let k = seat v (at v i) in
       let inc = S.at_inc v i hv hi in
-      let k = seat v w in
-      let hk = S.seat_in v w hv hw inc in
-      let same = S.at_seat v w hv hw inc in
-      elim (dec_lt k i) [
-        | yes lt ↦ let r = S.at_rise v k i hv lt hi in absurd (omega arith)
-        | no nl ↦ elim (dec_lt i k) [ yes gt ↦ let r = S.at_rise v i k hv gt hk in absurd (omega arith) | no ng ↦ omega arith ]
-      ]
+      let hk = S.seat_in v (at v i) hv (S.at_in v i hv hi) inc in
+      let same = S.at_seat v (at v i) hv (S.at_in v i hv hi) inc in
+      grind (arith, S.at_rise v k i hv, S.at_rise v i k hv)
 
 module _ (y : Layout) (Inc : ℕ → ℕ → Type 0) (laws : LayoutLaws y Inc) where
   open y use {points, lines, point_degree, line_degree, line_at, seat_at, point_on, seat_on}

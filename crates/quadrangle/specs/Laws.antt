@@ -50,8 +50,8 @@ module _ (φ : FieldModel) (laws : FieldLaws φ) where
 
   pub incs : (x y z a b c : ℕ) → y < q → z < q → b < q → c < q → sum y b ≡ prod a x → sum z c ≡ prod x b → Inc φ (number q x y z) (number q a b c)
   incs x y z a b c hy hz hb hc e h = (
-    ap₂ sum (second_is q x y z hy hz) (second_is q a b c hb hc) ∙ e ∙ sym (ap₂ prod (first_is q a b c hb hc) (first_is q x y z hy hz)),
-    ap₂ sum (third_is q x y z hz) (third_is q a b c hc) ∙ h ∙ sym (ap₂ prod (first_is q x y z hy hz) (second_is q a b c hb hc)),
+    cc (second_is q x y z hy hz, second_is q a b c hb hc, first_is q a b c hb hc, first_is q x y z hy hz),
+    cc (third_is q x y z hz, third_is q a b c hc, first_is q x y z hy hz, second_is q a b c hb hc),
   )
 
   -- each line through a point is found by its slope, and each point of a line by its place
@@ -72,10 +72,7 @@ module _ (φ : FieldModel) (laws : FieldLaws φ) where
     at_rise = λ p i j hp lt hj. number_rise q i _ _ j _ _ lt (sum_code _ _) (sum_code _ _);
     seat_in = λ p l hp hl inc. first_lt q l pos hl;
     at_seat = λ p l hp hl inc.
-        let b : minus φ (prod (X l) (X p)) (Y p) ≡ Y l = ap (λ n. minus φ n (Y p)) (sym inc.0) ∙ minus_plus φ laws (Y p) (Y l) (second_lt l) in
-        let c : minus φ (prod (X p) (minus φ (prod (X l) (X p)) (Y p))) (Z p) ≡ Z l =
-        ap (λ n. minus φ (prod (X p) n) (Z p)) b ∙ ap (λ n. minus φ n (Z p)) (sym inc.1) ∙ minus_plus φ laws (Z p) (Z l) (third_lt l) in
-        ap₂ (λ m n. number q (X l) m n) b c ∙ number_is q l;
+        cc (inc.0, inc.1, minus_plus φ laws (Y p) (Y l) (second_lt l), minus_plus φ laws (Z p) (Z l) (third_lt l), number_is q l);
   }
 
   pub by_lines : Side (q * q * q) (q * q * q) q (λ l p. Inc φ p l) plan.point_on plan.seat_on
@@ -85,30 +82,32 @@ module _ (φ : FieldModel) (laws : FieldLaws φ) where
     at_rise = λ l i j hl lt hj. number_rise q i _ _ j _ _ lt (sum_code _ _) (sum_code _ _);
     seat_in = λ l p hl hp inc. first_lt q p pos hp;
     at_seat = λ l p hl hp inc.
-        let b : minus φ (prod (X l) (X p)) (Y l) ≡ Y p = ap (λ n. minus φ n (Y l)) (sym inc.0 ∙ sum_comm (Y p) (Y l)) ∙ minus_plus φ laws (Y l) (Y p) (second_lt p) in
-        let c : minus φ (prod (X p) (Y l)) (Z l) ≡ Z p = ap (λ n. minus φ n (Z l)) (sym inc.1 ∙ sum_comm (Z p) (Z l)) ∙ minus_plus φ laws (Z l) (Z p) (third_lt p) in
-        ap₂ (λ m n. number q (X p) m n) b c ∙ number_is q p;
+        cc (
+          inc.0, inc.1, sum_comm (Y p) (Y l), sum_comm (Z p) (Z l),
+          minus_plus φ laws (Y l) (Y p) (second_lt p), minus_plus φ laws (Z l) (Z p) (third_lt p), number_is q p,
+        );
   }
 
   -- v + b = m and v + b' = m' say together m + b' = m' + b
   mixed : (v b b' m m' : ℕ) → sum v b ≡ m → sum v b' ≡ m' → sum m b' ≡ sum m' b
   mixed v b b' m m' e e' =
       let swap : sum (sum v b) b' ≡ sum (sum v b') b = simp (laws.sum_comm, sum_left_comm φ laws) in
-      ap (λ n. sum n b') (sym e) ∙ swap ∙ ap (λ n. sum n b) e'
+      cc
 
   pub two_points : (p p' l l' : ℕ) → p < q * q * q → p' < q * q * q → l < q * q * q → l' < q * q * q → p ≢ p'
       → Inc φ p l → Inc φ p' l → Inc φ p l' → Inc φ p' l' → l ≡ l'
   two_points p p' l l' hp hp' hl hl' n a b c d =
       elim (ℕ_discrete (X p) (X p')) [
-        | yes e ↦ absurd (n (same_number q p p' e
-            (sum_cancel_right φ laws (Y l) (Y p) (Y p') (second_lt p) (second_lt p') (a.0 ∙ ap (prod (X l)) e ∙ sym b.0))
-            (sum_cancel_right φ laws (Z l) (Z p) (Z p') (third_lt p) (third_lt p') (a.1 ∙ ap (λ v. prod v (Y l)) e ∙ sym b.1))))
+        | yes e ↦
+            let y = sum_cancel_right φ laws (Y l) (Y p) (Y p') (second_lt p) (second_lt p') (cc (a.0, b.0)) in
+            let z = sum_cancel_right φ laws (Z l) (Z p) (Z p') (third_lt p) (third_lt p') (cc (a.1, b.1)) in
+            absurd (n (same_number q p p' e y z))
         | no m ↦
             let s : X l ≡ X l' = slopes φ laws (X l) (X l') (X p) (X p') (Y l') (Y l)
             (first_lt q l pos hl) (first_lt q l' pos hl') (first_lt q p pos hp) (first_lt q p' pos hp') m
             (mixed (Y p) (Y l) (Y l') _ _ a.0 c.0) (mixed (Y p') (Y l) (Y l') _ _ b.0 d.0) in
-            let t : Y l ≡ Y l' = sum_cancel φ laws (Y p) (Y l) (Y l') (second_lt l) (second_lt l') (a.0 ∙ ap (λ v. prod v (X p)) s ∙ sym c.0) in
-            same_number q l l' s t (sum_cancel φ laws (Z p) (Z l) (Z l') (third_lt l) (third_lt l') (a.1 ∙ ap (prod (X p)) t ∙ sym c.1))
+            let t : Y l ≡ Y l' = sum_cancel φ laws (Y p) (Y l) (Y l') (second_lt l) (second_lt l') (cc (a.0, c.0)) in
+            same_number q l l' s t (sum_cancel φ laws (Z p) (Z l) (Z l') (third_lt l) (third_lt l') (cc (a.1, c.1)))
       ]
 
   pub keeps : LayoutLaws plan (Inc φ)

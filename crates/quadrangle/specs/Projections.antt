@@ -94,10 +94,8 @@ module _ (φ : FieldModel) (laws : FieldLaws φ) where
       let slope : X k ≡ X k' = one_slope φ laws (X l) (Y l) (Z l) (X p) (Y p) (Z p) hx ha (X r) (X k) (X k')
       (first_lt q r pos f.joined_in) (first_lt q k pos f.joining_in) (first_lt q k' pos f'.joining_in) f.gap_left f.turn
       (subst (λ v. sum (sum (prod (X l) v) (prod (X k') (X p))) (E l p) ≡ sum (prod (X k') v) (prod (X l) (X p))) (sym same) f'.turn) in (
-        sym ((by_lines φ laws).at_seat l r f.line_in f.joined_in f.on_line) ∙ ap ((quadrangle_layout φ).point_on l) same
-            ∙ (by_lines φ laws).at_seat l r' f.line_in f'.joined_in f'.on_line,
-        sym ((by_points φ laws).at_seat p k f.point_in f.joining_in f.through_point) ∙ ap ((quadrangle_layout φ).line_at p) slope
-            ∙ (by_points φ laws).at_seat p k' f.point_in f'.joining_in f'.through_point,
+        cc ((by_lines φ laws).at_seat l r f.line_in f.joined_in f.on_line, (by_lines φ laws).at_seat l r' f.line_in f'.joined_in f'.on_line),
+        cc ((by_points φ laws).at_seat p k f.point_in f.joining_in f.through_point, (by_points φ laws).at_seat p k' f.point_in f'.joining_in f'.through_point),
       )
 
   -- the pair worked out

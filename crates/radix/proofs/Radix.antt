@@ -48,7 +48,7 @@ module _ (q : ℕ) where
   first_lt n pos h = div_below (n / q) q q pos (div_below n q (q * q) pos h)
 
   pub same_number : (m n : ℕ) → first q m ≡ first q n → second q m ≡ second q n → third q m ≡ third q n → m ≡ n
-  same_number m n a b c = sym (number_is m) ∙ ap₂ (λ x y. number q x y (third q m)) a b ∙ ap (number q (first q n) (second q n)) c ∙ number_is n
+  same_number m n a b c = cc (number_is m, number_is n)
 
   -- the number as it is written for reading
   pub read : (x y z : ℕ) → q * q * x + q * y + z ≡ number q x y z
