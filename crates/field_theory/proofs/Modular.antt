@@ -65,17 +65,14 @@ module _ (q : ℕ) (prime : among q prime_orders ≡ true) (one : 1 < q) (small 
     prod_code = λ a b. mod-lt (c a * c b) pos;
     inv_code = inverse_lt q pos table size test;
     sum_comm = λ a b. ap (λ x. x % q) (add_comm (c a) (c b));
-    sum_assoc = λ a b d. ap (λ x. (x + c d) % q) (c_mod (c a + c b)) ∙ mod-add-mod (c a + c b) q (c d) ∙ ap (λ x. x % q) (add_assoc (c a) (c b) (c d))
-        ∙ sym (ap (λ x. (c a + x) % q) (c_mod (c b + c d)) ∙ add-mod-mod (c a) (c b + c d) q);
-    sum_zero = λ a h. ap (λ x. x % q) (ap₂ ◌+◌ (code_is q a h) (code_is q 0 pos) ∙ add-zero a) ∙ mod-eq_of_lt h;
+    sum_assoc = λ a b d. simp (c_mod, mod-add-mod, add-mod-mod, add_assoc);
+    sum_zero = λ a h. rw (code_is q a h, code_is q 0 pos, add-zero a) (mod-eq_of_lt h);
     sum_neg = λ a. ap (λ x. (c a + x) % q) (c_mod (q - c a)) ∙ add-mod-mod (c a) (q - c a) q ∙ ap (λ x. x % q) (let h = c_lt a in omega arith) ∙ mod_self q;
     prod_comm = λ a b. ap (λ x. x % q) (mul_comm (c a) (c b));
-    prod_assoc = λ a b d. ap (λ x. (x * c d) % q) (c_mod (c a * c b)) ∙ mul-mod_first (c a * c b) (c d) q ∙ ap (λ x. x % q) (mul_assoc (c a) (c b) (c d))
-        ∙ sym (ap (λ x. (c a * x) % q) (c_mod (c b * c d)) ∙ mul-mod_second (c a) (c b * c d) q);
-    prod_one = λ a h. ap (λ x. x % q) (ap₂ ◌*◌ (code_is q a h) (code_is q 1 one) ∙ mul-one a) ∙ mod-eq_of_lt h;
+    prod_assoc = λ a b d. simp (c_mod, mul-mod_first, mul-mod_second, mul_assoc);
+    prod_one = λ a h. rw (code_is q a h, code_is q 1 one, mul-one a) (mod-eq_of_lt h);
     prod_inv = λ a h nz. sym (prod_is q prime a (defined_inv q a)) ∙ inverse_is q pos table size test a h nz;
-    prod_sum = λ a b d. ap (λ x. (c a * x) % q) (c_mod (c b + c d)) ∙ mul-mod_second (c a) (c b + c d) q ∙ ap (λ x. x % q) (mul-add (c a) (c b) (c d))
-        ∙ add-mod (c a * c b) (c a * c d) q ∙ sym (ap₂ (λ x y. (x + y) % q) (c_mod (c a * c b)) (c_mod (c a * c d)));
+    prod_sum = λ a b d. simp (c_mod, mul-mod_second, mul-add, mod-add-mod, add-mod-mod);
     listed_sum = λ t a b. sym (sum_is q prime a b);
     listed_prod = λ t a b. sym (prod_is q prime a b);
   }

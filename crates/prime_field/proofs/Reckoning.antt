@@ -22,26 +22,26 @@ module _ (q : ℕ) (prime : T (among q prime_orders)) where
   code = read_lt (defined_field q) laws
 
   pub sum_small : (a b x y : ℕ) → x ≡ as_code q a → y ≡ as_code q b → x + y < q → x + y ≡ defined_sum q a b
-  sum_small a b x y ex ey h = sym (mod-eq_of_lt h) ∙ ap₂ (λ m n. (m + n) % q) ex ey ∙ sym (sum_is q listed a b)
+  sum_small a b x y ex ey h = cc (mod-eq_of_lt h, sum_is q listed a b)
 
   pub sum_large : (a b x y : ℕ) → x ≡ as_code q a → y ≡ as_code q b → q ≤ x + y → x + y - q ≡ defined_sum q a b
   sum_large a b x y ex ey h =
       let hx = code a x ex in
       let hy = code b y ey in
       let l : x + y - q < q = omega arith in
-      sym (mod-eq-sub-mod h ∙ mod-eq_of_lt l) ∙ ap₂ (λ m n. (m + n) % q) ex ey ∙ sym (sum_is q listed a b)
+      cc (mod-eq-sub-mod h, mod-eq_of_lt l, sum_is q listed a b)
 
   pub neg_zero : (a x : ℕ) → x ≡ as_code q a → x ≡ 0 → 0 ≡ defined_neg q a
-  neg_zero a x ex z = sym (rw (neg_is q listed a, sym ex, z, sub-zero q) (mod_self q))
+  neg_zero a x ex z = cc (neg_is q listed a, sub-zero q, mod_self q)
 
   pub neg_some : (a x : ℕ) → x ≡ as_code q a → x ≢ 0 → q - x ≡ defined_neg q a
   neg_some a x ex nz =
       let h = code a x ex in
       let l : q - x < q = omega arith in
-      sym (mod-eq_of_lt l) ∙ ap (λ m. (q - m) % q) ex ∙ sym (neg_is q listed a)
+      cc (mod-eq_of_lt l, neg_is q listed a)
 
   pub product : (a b x y : ℕ) → x ≡ as_code q a → y ≡ as_code q b → x * y % q ≡ defined_prod q a b
-  product a b x y ex ey = ap₂ (λ m n. m * n % q) ex ey ∙ sym (prod_is q listed a b)
+  product a b x y ex ey = cc (prod_is q listed a b)
 
   pub inverse_some : (a x : ℕ) → x ≡ as_code q a → x ≢ 0 → Some (get_or inverses (q * 14 + x) 0) ≡ inverse (defined_field q) a
   inverse_some a x ex nz =

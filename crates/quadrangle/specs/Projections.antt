@@ -135,19 +135,19 @@ module _ (φ : FieldModel) (laws : FieldLaws φ) where
     at_pair : (place : ℕ) → place < q → E l p ≢ 0 → H l p ≡ prod (E l p) place → Joined G l p (at_place φ (X l) (Y l) (Z l) (X p) (Y p) (Z p) (Some place))
     at_pair place hx' n at =
         elim (ℕ_discrete (minus φ place (X p)) 0) [
-          | yes o ↦ subst (λ t. Joined G l p (at_slope φ (X l) (Y l) (Z l) (X p) (Y p) (Z p) place t)) (sym (ap (over φ (E l p)) o ∙ over_zero φ laws (E l p)))
+          | yes o ↦ rw (o, over_zero φ laws (E l p))
               (λ r k j. let f = found l p r k j in
               let same : X r ≡ place = shorten φ laws (E l p) (X r) place (sum_code _ _) (first_lt q r pos f.joined_in) hx' n (sym f.place ∙ at) in
               apart_places φ laws (X l) (Y l) (Z l) (X p) (Y p) (Z p) hx ha (X r) (X k) f.turn n (same ∙ minus_eq φ laws place (X p) hx' hx o))
-          | no m ↦ subst (λ t. Joined G l p (at_slope φ (X l) (Y l) (Z l) (X p) (Y p) (Z p) place t)) (sym (over_is φ laws (E l p) (minus φ place (X p)) (sum_code _ _) m))
+          | no m ↦ rw (over_is φ laws (E l p) (minus φ place (X p)) (sum_code _ _) m)
               (pair place hx' (λ s. m (same_minus φ laws place (X p) s)) n at)
         ]
 
     joining_joined : Joined G l p (joining_pair φ (X l) (Y l) (Z l) (X p) (Y p) (Z p))
     joining_joined =
         elim (ℕ_discrete (E l p) 0) [
-          | yes o ↦ subst (λ t. Joined G l p (at_place φ (X l) (Y l) (Z l) (X p) (Y p) (Z p) t)) (sym (ap (over φ (H l p)) o ∙ over_zero φ laws (H l p))) (λ r k j. (found l p r k j).gap_left o)
-          | no n ↦ subst (λ t. Joined G l p (at_place φ (X l) (Y l) (Z l) (X p) (Y p) (Z p) t)) (sym (over_is φ laws (H l p) (E l p) (sum_code _ _) n))
+          | yes o ↦ rw (o, over_zero φ laws (H l p)) (λ r k j. (found l p r k j).gap_left o)
+          | no n ↦ rw (over_is φ laws (H l p) (E l p) (sum_code _ _) n)
               (at_pair (prod (H l p) (inv (E l p))) (prod_code _ _) n (sym (times_quotient φ laws (E l p) (H l p) (sum_code _ _) (sum_code _ _) n)))
         ]
 
