@@ -1,6 +1,6 @@
 -- The formulas give the Euclidean plane, and nothing else does.
 use Rattle.std.specs.Prelude.{◌≡◌, ℕ, ◌+◌, ◌*◌, ◌/◌, ◌%◌, ◌<◌, refl}
-use Rattle.std.proofs.Common.{sym, ap, ap₂, ◌∙◌, subst, mod-lt, div-add-mod', mul-pos}
+use Rattle.std.proofs.Common.{sym, ◌∙◌, mod-lt, div-add-mod', mul-pos}
 use Rattle.std.proofs.Math.Decide.{ℕ_discrete}
 use Rattle.std.proofs.lemmas.Nat.{div_below}
 use Rattle.std.proofs.Math.Nat.{div-add-mod}
@@ -10,8 +10,6 @@ use Rattle.field.specs.Laws.{FieldLaws}
 use Rattle.field.proofs.Ring.{zero_code, sum_cancel}
 use Rattle.field.proofs.Differences.{plus_minus, minus_plus}
 use Rattle.field.proofs.Slopes.{slopes}
-use Rattle.geometry.specs.Model.{GeometryModel}
-use Rattle.geometry.specs.Incidence.{On}
 use Rattle.geometry.specs.Layouts.{Layout}
 use Rattle.geometry.proofs.Laid.{laid_lawful, laid_rising, by_rule}
 use Rattle.geometry.proofs.Only.{only}
@@ -103,7 +101,10 @@ module _ (φ : FieldModel) (laws : FieldLaws φ) where
     point_degree_is = H.point_degree_is;
     line_degree_is = H.line_degree_is;
     rule = λ p l hp hl. (
-      _, _, div-add-mod p q, div-add-mod l q,
+      _,
+      _,
+      div-add-mod p q,
+      div-add-mod l q,
       H.incidence (p / q) (p % q) (l / q) (l % q) (div_below p q q pos hp) (mod-lt p pos) (div_below l q q pos hl) (mod-lt l pos),
     );
   })

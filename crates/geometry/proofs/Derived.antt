@@ -1,8 +1,8 @@
 -- What follows at once from the laws of a geometry.
 use Rattle.std.proofs.Common.{◌≡◌, ℕ, ◌+◌, ◌*◌, ◌%◌, ◌<◌, sym, refl, ap, ◌∙◌, subst, mod-lt, div-add-mod'}
-use lib.Arith.{digits_lt, digits_div, digits_mod}
+use lib.Arith.{digits_lt, digits_div}
 use Rattle.std.proofs.lemmas.Nat.{div_below}
-use Rattle.geometry.specs.Model.{GeometryModel, edges, line_of}
+use Rattle.geometry.specs.Model.{GeometryModel, line_of}
 use Rattle.geometry.specs.Incidence.{On}
 use Rattle.geometry.specs.Laws.{GeometryLaws}
 

@@ -1,5 +1,5 @@
 -- What is known of a geometry that is not refused.
-use Rattle.std.proofs.Common.{◌≡◌, ◌≤◌, true, ◌&&◌, T, leb, Ok, sym, subst, arith}
+use Rattle.std.proofs.Common.{◌≡◌, ◌≤◌, true, T, leb, Ok, sym, subst, arith}
 use Rattle.std.proofs.lemmas.Bool.{leb-true, and_parts, cases_Bool}
 use Rattle.field.specs.Defined.{listed}
 use Rattle.geometry.specs.Model.{GeometryModel, edges}

@@ -3,8 +3,6 @@ use Rattle.std.specs.Prelude.{◌≡◌, ℕ, ◌+◌, ◌*◌, ◌<◌, refl}
 use Rattle.std.proofs.Common.{sym, ap, ap₂, ◌∙◌, subst, arith}
 use Rattle.field.specs.Model.{FieldModel}
 use Rattle.field.specs.Laws.{FieldLaws}
-use Rattle.geometry.specs.Model.{GeometryModel}
-use Rattle.geometry.specs.Incidence.{On}
 use Rattle.geometry.proofs.Laid.{laid_lawful, laid_rising, by_rule}
 use Rattle.geometry.proofs.Only.{only}
 use Rattle.geometry.proofs.Sides.{Side, LayoutLaws}
@@ -113,6 +111,10 @@ module _ (φ : FieldModel) (laws : FieldLaws φ) where
     point_degree_is = H.point_degree_is;
     line_degree_is = H.line_degree_is;
     rule = λ p l hp hl. (
-      _, _, (number_triple q more p hp).0, (number_triple q more l hl).0, H.incidence (T p) (T l) (codes p hp) (codes l hl),
+      _,
+      _,
+      (number_triple q more p hp).0,
+      (number_triple q more l hl).0,
+      H.incidence (T p) (T l) (codes p hp) (codes l hl),
     );
   })

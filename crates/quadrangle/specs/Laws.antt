@@ -1,14 +1,12 @@
 -- The formulas give the quadrangle, and nothing else does.
-use Rattle.std.specs.Prelude.{◌≡◌, ℕ, ◌+◌, ◌*◌, ◌/◌, ◌<◌, ◌≢◌, refl}
-use Rattle.std.proofs.Common.{sym, ap, ap₂, ◌∙◌, subst, mod-lt, mul-pos}
+use Rattle.std.specs.Prelude.{◌≡◌, ℕ, ◌*◌, ◌/◌, ◌<◌, ◌≢◌, refl}
+use Rattle.std.proofs.Common.{◌∙◌, subst, mod-lt, mul-pos}
 use Rattle.std.proofs.Math.Decide.{ℕ_discrete}
 use Rattle.field.specs.Model.{FieldModel, minus}
 use Rattle.field.specs.Laws.{FieldLaws}
 use Rattle.field.proofs.Ring.{zero_code, sum_cancel, sum_left_comm}
 use Rattle.field.proofs.Differences.{plus_minus, minus_plus, minus_back, sum_cancel_right}
 use Rattle.field.proofs.Slopes.{slopes}
-use Rattle.geometry.specs.Model.{GeometryModel}
-use Rattle.geometry.specs.Incidence.{On}
 use Rattle.geometry.specs.Layouts.{Layout}
 use Rattle.geometry.proofs.Laid.{laid_lawful, laid_rising, by_rule}
 use Rattle.geometry.proofs.Only.{only}
@@ -83,8 +81,13 @@ module _ (φ : FieldModel) (laws : FieldLaws φ) where
     seat_in = λ l p hl hp inc. first_lt q p pos hp;
     at_seat = λ l p hl hp inc.
         cc (
-          inc.0, inc.1, sum_comm (Y p) (Y l), sum_comm (Z p) (Z l),
-          minus_plus φ laws (Y l) (Y p) (second_lt p), minus_plus φ laws (Z l) (Z p) (third_lt p), number_is q p,
+          inc.0,
+          inc.1,
+          sum_comm (Y p) (Y l),
+          sum_comm (Z p) (Z l),
+          minus_plus φ laws (Y l) (Y p) (second_lt p),
+          minus_plus φ laws (Z l) (Z p) (third_lt p),
+          number_is q p,
         );
   }
 
@@ -147,7 +150,10 @@ module _ (φ : FieldModel) (laws : FieldLaws φ) where
     point_degree_is = H.point_degree_is;
     line_degree_is = H.line_degree_is;
     rule = λ p l hp hl. (
-      _, _, read q (X p) (Y p) (Z p) ∙ number_is q p, read q (X l) (Y l) (Z l) ∙ number_is q l,
+      _,
+      _,
+      read q (X p) (Y p) (Z p) ∙ number_is q p,
+      read q (X l) (Y l) (Z l) ∙ number_is q l,
       H.incidence (X p) (Y p) (Z p) (X l) (Y l) (Z l) (first_lt q p pos hp) (second_lt p) (third_lt p) (first_lt q l pos hl) (second_lt l) (third_lt l),
     );
   })

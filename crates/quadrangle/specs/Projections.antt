@@ -3,7 +3,7 @@ use Rattle.std.specs.Prelude.{◌≡◌, ℕ, ◌*◌, ◌<◌, Bool, true, fals
 use Rattle.std.proofs.Common.{sym, ap, ◌∙◌, subst, arith}
 use Rattle.std.proofs.Math.Decide.{ℕ_discrete}
 use Rattle.std.proofs.lemmas.Bool.{ltb-true, ltb-false}
-use Rattle.field.specs.Model.{FieldModel, minus, over}
+use Rattle.field.specs.Model.{FieldModel, minus}
 use Rattle.field.specs.Laws.{FieldLaws}
 use Rattle.field.proofs.Ring.{zero_code, zero_prod, minus_eq}
 use Rattle.field.proofs.Differences.{plus_minus, minus_back, same_minus}
@@ -15,7 +15,7 @@ use Rattle.geometry.proofs.Laid.{on_inc, inc_on}
 use Rattle.radix.specs.Digits.{first, second, third}
 use Rattle.radix.proofs.Radix.{first_lt}
 use Rattle.quadrangle.specs.Formulas.{quadrangle, quadrangle_layout, line_through, point_over}
-use Rattle.quadrangle.specs.Projected.{gap, joining_pair, projected, at_place, at_slope}
+use Rattle.quadrangle.specs.Projected.{gap, joining_pair, projected, at_place}
 use Rattle.quadrangle.specs.Laws.{Inc, keeps, by_points, by_lines, incs}
 use Rattle.quadrangle.specs.Pairs.{must, does, turns, apart_places, one_slope, closed, opened}
 

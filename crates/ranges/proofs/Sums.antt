@@ -1,5 +1,5 @@
 -- Laws of sums over a range.
-use Rattle.std.proofs.Common.{◌≡◌, ℕ, zero, suc, ◌+◌, ◌*◌, ◌<◌, ◌≤◌, ◌≢◌, sym, refl, ◌∙◌, inl, inr, eq-or-lt_of_le, add-one, arith}
+use Rattle.std.proofs.Common.{◌≡◌, ℕ, zero, suc, ◌+◌, ◌*◌, ◌<◌, ◌≤◌, ◌≢◌, sym, refl, ◌∙◌, inl, inr, eq-or-lt_of_le, arith}
 use native.Mathlib.Decide.{dec_le}
 use Rattle.ranges.specs.Ranges.{sum, Bits}
 
