@@ -1,15 +1,15 @@
 -- The tables of products and inverses are right.
-use Rattle.std.specs.Prelude.{◌≡◌, ℕ, zero, suc, ◌+◌, ◌*◌, ◌/◌, ◌%◌, ◌<◌, Bool, true, false, cond, T, List, [], ◌∷◌, length, Some, None, Option, ◌==◌, ◌≢◌, bit_xor, nat_eq, nat_lt, slice_index, slice_index_or, refl}
-use Rattle.std.proofs.Common.{sym, ap, ap₂, ◌∙◌, subst, arith, eqb→eq, ltb→lt}
+use Rattle.std.specs.Prelude.{◌≡◌, ℕ, zero, suc, ◌+◌, ◌*◌, ◌/◌, ◌%◌, ◌<◌, Bool, true, false, ◌&&◌, T, List, [], ◌∷◌, length, Some, ◌==◌, ◌≢◌, bit_xor, nat_lt, slice_index, refl}
+use Rattle.std.proofs.Common.{sym, ap, ap₂, ◌∙◌, subst, eqb→eq}
 use Rattle.std.proofs.lemmas.Nat.{div-mul-add, mod-mul-add, mul-add-lt}
-use Rattle.std.proofs.lemmas.Bool.{ne_eqb}
+use Rattle.std.proofs.lemmas.Bool.{and_parts, eqb-true, ltb-true}
 use Rattle.field.specs.Model.{as_code, inverse}
 use Rattle.field.specs.Polynomials.{bit, scaled, poly_product, remainder}
-use Rattle.field.specs.Defined.{among, prime_orders, degree, modulus, defined_sum, defined_neg, defined_prod, defined_inv, defined_field}
+use Rattle.field.specs.Defined.{among, prime_orders, degree, modulus, defined_sum, defined_neg, defined_prod, defined_field}
 use Rattle.field.specs.Laws.{FieldLaws}
-use Rattle.field.proofs.Codes.{code_lt}
-use Rattle.field.proofs.Ring.{inverse_only}
-use Rattle.field_theory.proofs.Scan.{both, both_left, both_right, every, at}
+use Rattle.field.proofs.Ring.{read_lt}
+use Rattle.field.proofs.Quotients.{inverse_by}
+use Rattle.field_theory.proofs.Scan.{is_true, every, at}
 use Rattle.field_theory.proofs.Lawful.{binary_field_lawful}
 use Rattle.field_theory.proofs.Binary.{sum_is, neg_is}
 use Rattle.binary_field.specs.declared.BinaryField.{BinaryField}
@@ -22,10 +22,6 @@ lawful Of4 = binary_field_lawful 4 tt
 lawful Of8 = binary_field_lawful 8 tt
 lawful Of16 = binary_field_lawful 16 tt
 
--- what a byte is read as is a code
-pub read_lt : (f : BinaryField) (a x : ℕ) → x ≡ as_code (order_of f) a → x < order_of f
-read_lt f a x e = let h = (lawful f).more in subst (λ n. n < order_of f) (sym e) (code_lt (order_of f) a (omega arith))
-
 no_prime : (f : BinaryField) → among (order_of f) prime_orders ≡ false
 no_prime Of4 = refl
 no_prime Of8 = refl
@@ -36,32 +32,6 @@ sum_read f a b x y ex ey = ap₂ bit_xor ex ey ∙ sym (sum_is (order_of f) (no_
 
 pub neg_read : (f : BinaryField) (a x : ℕ) → x ≡ as_code (order_of f) a → x ≡ defined_neg (order_of f) a
 neg_read f a x ex = ex ∙ sym (neg_is (order_of f) (no_prime f) a)
-
--- a table of products in the field of order q, by rows
-module _ (q : ℕ) (laws : FieldLaws (defined_field q)) (table : List ℕ) (size : length table ≡ q * q) (test : T (every (λ i x. nat_eq x (defined_prod q (i / q) (i % q))) 0 table)) where
-  pub product_entry : (a b x y : ℕ) → x ≡ as_code q a → y ≡ as_code q b → x < q → y < q → slice_index table (x * q + y) ≡ defined_prod q a b
-  product_entry a b x y ex ey hx hy =
-      let i = x * q + y in
-      let h : i < length table = subst (λ n. i < n) (sym size) (mul-add-lt x q y q hx hy) in
-      eqb→eq (slice_index table i) (defined_prod q (i / q) (i % q)) (at (λ i x. nat_eq x (defined_prod q (i / q) (i % q))) table test i h)
-      ∙ ap₂ (defined_prod q) (div-mul-add x q y hy ∙ ex) (mod-mul-add x q y hy ∙ ey) ∙ sym (laws.prod_reads a b)
-
--- a table of inverses
-abbrev entry_fits : ℕ → ℕ → ℕ → Bool
-entry_fits q zero x = true
-entry_fits q (suc a) x = both (nat_lt x q) (defined_prod q (suc a) x == 1)
-
-module _ (q : ℕ) (laws : FieldLaws (defined_field q)) (table : List ℕ) (size : length table ≡ q) (test : T (every (entry_fits q) 0 table)) where
-  fits : (a x : ℕ) → (a ≢ 0) → T (entry_fits q a x) → T (both (nat_lt x q) (defined_prod q a x == 1))
-  fits zero x nz t = absurd (nz refl)
-  fits (suc a) x nz t = t
-
-  pub inverse_entry : (a x : ℕ) → x ≡ as_code q a → x < q → (x ≢ 0) → slice_index table x ≡ defined_inv q a
-  inverse_entry a x ex h nz =
-      let y = slice_index_or table x 0 in
-      let t = fits x y nz (at (entry_fits q) table test x (subst (λ n. x < n) (sym size) h)) in
-      inverse_only (defined_field q) laws x y h (ltb→lt y q (both_left (nat_lt y q) (defined_prod q x y == 1) t)) (eqb→eq (defined_prod q x y) 1 (both_right (nat_lt y q) (defined_prod q x y == 1) t))
-      ∙ ap (defined_inv q) ex ∙ sym (laws.inv_reads a)
 
 -- the tables as the code has them
 unfoldable pub products4 : List ℕ
@@ -82,31 +52,7 @@ products16 = 0 ∷ 0 ∷ 0 ∷ 0 ∷ 0 ∷ 0 ∷ 0 ∷ 0 ∷ 0 ∷ 0 ∷ 0 ∷ 0
 unfoldable pub inverses16 : List ℕ
 inverses16 = 0 ∷ 1 ∷ 9 ∷ 14 ∷ 13 ∷ 11 ∷ 7 ∷ 6 ∷ 15 ∷ 2 ∷ 12 ∷ 5 ∷ 10 ∷ 4 ∷ 3 ∷ 8 ∷ []
 
-pub product4 : (a b x y : ℕ) → x ≡ as_code 4 a → y ≡ as_code 4 b → x < 4 → y < 4 → slice_index products4 (x * 4 + y) ≡ defined_prod 4 a b
-unfolding products4 defined_prod degree modulus remainder poly_product bit scaled
-product4 = product_entry 4 (lawful Of4) products4 refl tt
-
-pub inverse4 : (a x : ℕ) → x ≡ as_code 4 a → x < 4 → (x ≢ 0) → slice_index inverses4 x ≡ defined_inv 4 a
-unfolding inverses4 defined_prod degree modulus remainder poly_product bit scaled
-inverse4 = inverse_entry 4 (lawful Of4) inverses4 refl tt
-
-pub product8 : (a b x y : ℕ) → x ≡ as_code 8 a → y ≡ as_code 8 b → x < 8 → y < 8 → slice_index products8 (x * 8 + y) ≡ defined_prod 8 a b
-unfolding products8 defined_prod degree modulus remainder poly_product bit scaled
-product8 = product_entry 8 (lawful Of8) products8 refl tt
-
-pub inverse8 : (a x : ℕ) → x ≡ as_code 8 a → x < 8 → (x ≢ 0) → slice_index inverses8 x ≡ defined_inv 8 a
-unfolding inverses8 defined_prod degree modulus remainder poly_product bit scaled
-inverse8 = inverse_entry 8 (lawful Of8) inverses8 refl tt
-
-pub product16 : (a b x y : ℕ) → x ≡ as_code 16 a → y ≡ as_code 16 b → x < 16 → y < 16 → slice_index products16 (x * 16 + y) ≡ defined_prod 16 a b
-unfolding products16 defined_prod degree modulus remainder poly_product bit scaled
-product16 = product_entry 16 (lawful Of16) products16 refl tt
-
-pub inverse16 : (a x : ℕ) → x ≡ as_code 16 a → x < 16 → (x ≢ 0) → slice_index inverses16 x ≡ defined_inv 16 a
-unfolding inverses16 defined_prod degree modulus remainder poly_product bit scaled
-inverse16 = inverse_entry 16 (lawful Of16) inverses16 refl tt
-
--- the tables of each field, at what two bytes are read as
+-- the tables of each field
 abbrev pub products : BinaryField → List ℕ
 products Of4 = products4
 products Of8 = products8
@@ -117,16 +63,62 @@ inverses Of4 = inverses4
 inverses Of8 = inverses8
 inverses Of16 = inverses16
 
-product_at : (f : BinaryField) (a b x y : ℕ) → x ≡ as_code (order_of f) a → y ≡ as_code (order_of f) b → x < order_of f → y < order_of f
-    → slice_index (products f) (x * order_of f + y) ≡ defined_prod (order_of f) a b
-product_at Of4 = product4
-product_at Of8 = product8
-product_at Of16 = product16
+-- the rule of a table of products, by rows
+abbrev product_fits : BinaryField → ℕ → ℕ → Bool
+product_fits f i x = x == defined_prod (order_of f) (i / order_of f) (i % order_of f)
 
-inverse_at : (f : BinaryField) (a x : ℕ) → x ≡ as_code (order_of f) a → x < order_of f → (x ≢ 0) → slice_index (inverses f) x ≡ defined_inv (order_of f) a
-inverse_at Of4 = inverse4
-inverse_at Of8 = inverse8
-inverse_at Of16 = inverse16
+products_length : (f : BinaryField) → length (products f) ≡ order_of f * order_of f
+unfolding products4 products8 products16
+products_length Of4 = refl
+products_length Of8 = refl
+products_length Of16 = refl
+
+products_right : (f : BinaryField) → T (every (product_fits f) (products f))
+unfolding products4 products8 products16 defined_prod degree modulus remainder poly_product bit scaled
+products_right Of4 = tt
+products_right Of8 = tt
+products_right Of16 = tt
+
+product_at : (f : BinaryField) (a b x y : ℕ) → x ≡ as_code (order_of f) a → y ≡ as_code (order_of f) b
+    → slice_index (products f) (x * order_of f + y) ≡ defined_prod (order_of f) a b
+product_at f a b x y ex ey =
+    let q = order_of f in
+    let i = x * q + y in
+    let hx = read_lt (defined_field q) (lawful f) a x ex in
+    let hy = read_lt (defined_field q) (lawful f) b y ey in
+    let h : i < length (products f) = subst (λ n. i < n) (sym (products_length f)) (mul-add-lt x q y q hx hy) in
+    eqb→eq (slice_index (products f) i) (defined_prod q (i / q) (i % q)) (at (product_fits f) (products f) (products_right f) i h)
+    ∙ ap₂ (defined_prod q) (div-mul-add x q y hy ∙ ex) (mod-mul-add x q y hy ∙ ey) ∙ sym ((lawful f).prod_reads a b)
+
+-- the rule of a table of inverses
+abbrev inverse_fits : ℕ → ℕ → ℕ → Bool
+inverse_fits q zero x = true
+inverse_fits q (suc a) x = nat_lt x q && (defined_prod q (suc a) x == 1)
+
+inverses_length : (f : BinaryField) → length (inverses f) ≡ order_of f
+unfolding inverses4 inverses8 inverses16
+inverses_length Of4 = refl
+inverses_length Of8 = refl
+inverses_length Of16 = refl
+
+inverses_right : (f : BinaryField) → T (every (inverse_fits (order_of f)) (inverses f))
+unfolding inverses4 inverses8 inverses16 defined_prod degree modulus remainder poly_product bit scaled
+inverses_right Of4 = tt
+inverses_right Of8 = tt
+inverses_right Of16 = tt
+
+fits : (q a x : ℕ) → a ≢ 0 → T (inverse_fits q a x) → (x < q) × (defined_prod q a x ≡ 1)
+fits q zero x n t = absurd (n refl)
+fits q (suc a) x n t =
+    let parts = and_parts (nat_lt x q) (defined_prod q (suc a) x == 1) (is_true (inverse_fits q (suc a) x) t) in
+    (ltb-true x q parts.0, eqb-true (defined_prod q (suc a) x) 1 parts.1)
+
+inverse_at : (f : BinaryField) (a x : ℕ) → x ≡ as_code (order_of f) a → x ≢ 0 → Some (slice_index (inverses f) x) ≡ inverse (defined_field (order_of f)) a
+inverse_at f a x ex n =
+    let q = order_of f in
+    let h : x < length (inverses f) = subst (λ n. x < n) (sym (inverses_length f)) (read_lt (defined_field q) (lawful f) a x ex) in
+    let y = fits q x (slice_index (inverses f) x) n (at (inverse_fits q) (inverses f) (inverses_right f) x h) in
+    inverse_by (defined_field q) (lawful f) a x (slice_index (inverses f) x) ex n y.0 y.1
 
 -- in the arm of the field k
 module _ (k f : BinaryField) (arm : f ≡ k) (q : ℕ) (order : q ≡ order_of f) where
@@ -134,10 +126,7 @@ module _ (k f : BinaryField) (arm : f ≡ k) (q : ℕ) (order : q ≡ order_of f
   here a x e = e ∙ ap (λ n. as_code n a) (order ∙ ap order_of arm)
 
   pub product_read : (a b x y : ℕ) → x ≡ as_code q a → y ≡ as_code q b → slice_index (products k) (x * order_of k + y) ≡ defined_prod (order_of f) a b
-  product_read a b x y ex ey =
-      product_at k a b x y (here a x ex) (here b y ey) (read_lt k a x (here a x ex)) (read_lt k b y (here b y ey)) ∙ ap (λ g. defined_prod (order_of g) a b) (sym arm)
+  product_read a b x y ex ey = product_at k a b x y (here a x ex) (here b y ey) ∙ ap (λ g. defined_prod (order_of g) a b) (sym arm)
 
-  pub inverse_read : (a x : ℕ) → x ≡ as_code q a → (x ≢ 0) → Some (slice_index (inverses k) x) ≡ inverse (defined_field (order_of f)) a
-  inverse_read a x ex nz =
-      ap Some (inverse_at k a x (here a x ex) (read_lt k a x (here a x ex)) nz ∙ ap (λ g. defined_inv (order_of g) a) (sym arm))
-      ∙ sym (ap (λ (b : Bool). cond {A = Option ℕ} b None (Some (defined_inv (order_of f) a))) (ap (λ n. nat_eq (as_code n a) 0) (sym order) ∙ ap (λ n. nat_eq n 0) (sym ex) ∙ ne_eqb x 0 nz))
+  pub inverse_read : (a x : ℕ) → x ≡ as_code q a → x ≢ 0 → Some (slice_index (inverses k) x) ≡ inverse (defined_field (order_of f)) a
+  inverse_read a x ex nz = inverse_at k a x (here a x ex) nz ∙ ap (λ g. inverse (defined_field (order_of g)) a) (sym arm)

@@ -2,18 +2,11 @@
 use Rattle.std.proofs.Common.{◌≡◌, ℕ, ◌<◌, sym, ap, ◌∙◌}
 use Rattle.field.specs.Model.{FieldModel, minus}
 use Rattle.field.specs.Laws.{FieldLaws}
-use Rattle.field.proofs.Ring.{zero_sum, sum_left_comm, sum_cancel}
+use Rattle.field.proofs.Ring.{undo, sum_left_comm, sum_cancel}
 
 module _ (φ : FieldModel) (laws : FieldLaws φ) where
   open φ use {order, sum, neg}
   open laws use {sum_comm, sum_assoc, sum_zero, sum_neg}
-
-  pub neg_sum : (a : ℕ) → sum (neg a) a ≡ 0
-  neg_sum a = sum_comm (neg a) a ∙ sum_neg a
-
-  -- -a + (a + x) = x
-  pub undo : (a x : ℕ) → x < order → sum (neg a) (sum a x) ≡ x
-  undo a x h = sym (sum_assoc (neg a) a x) ∙ ap (λ y. sum y x) (neg_sum a) ∙ zero_sum φ laws x h
 
   -- a + (y - a) = y
   pub plus_minus : (a y : ℕ) → y < order → sum a (minus φ y a) ≡ y
@@ -21,7 +14,7 @@ module _ (φ : FieldModel) (laws : FieldLaws φ) where
 
   -- (a + y) - a = y
   pub minus_plus : (a y : ℕ) → y < order → minus φ (sum a y) a ≡ y
-  minus_plus a y h = sum_comm (sum a y) (neg a) ∙ undo a y h
+  minus_plus a y h = sum_comm (sum a y) (neg a) ∙ undo φ laws a y h
 
   -- (y - a) + a = y
   pub minus_back : (a y : ℕ) → y < order → sum (minus φ y a) a ≡ y

@@ -4,11 +4,12 @@ use native.Mathlib.Decide.{ℕ_discrete}
 use Rattle.field.specs.Model.{FieldModel}
 use Rattle.field.specs.Laws.{FieldLaws}
 use Rattle.field.specs.Sums.{field_sum}
-use Rattle.field.proofs.Ring.{zero_code, zero_sum, prod_zero, sum_left_comm, sum_cancel}
+use Rattle.field.proofs.Ring.{zero_code, zero_sum, prod_zero, sum_cancel}
+use Rattle.field.proofs.Differences.{sum_cancel_right, sum_swap}
 
 module _ (φ : FieldModel) (laws : FieldLaws φ) where
-  open φ use {order, sum, neg, prod, inv}
-  open laws use {more, sum_code, neg_code, prod_code, inv_code, sum_comm, sum_assoc, sum_zero, sum_neg, prod_comm, prod_assoc, prod_one, prod_sum, prod_inv}
+  open φ use {order, sum, prod}
+  open laws use {sum_code, sum_comm, sum_assoc, sum_zero, prod_sum}
 
   pub range_ext : (n : ℕ) (f g : ℕ → ℕ) → ((i : ℕ) → i < n → f i ≡ g i) → field_sum φ n f ≡ field_sum φ n g
   unfolding field_sum
@@ -29,8 +30,7 @@ module _ (φ : FieldModel) (laws : FieldLaws φ) where
   unfolding field_sum
   range_sum zero f g = sym (sum_zero 0 (zero_code φ laws))
   range_sum (suc n) f g =
-      ap (λ x. sum x (sum (f n) (g n))) (range_sum n f g) ∙ sum_assoc (field_sum φ n f) (field_sum φ n g) (sum (f n) (g n))
-      ∙ ap (sum (field_sum φ n f)) (sum_left_comm φ laws (field_sum φ n g) (f n) (g n)) ∙ sym (sum_assoc (field_sum φ n f) (f n) (sum (field_sum φ n g) (g n)))
+      ap (λ x. sum x (sum (f n) (g n))) (range_sum n f g) ∙ sum_swap φ laws (field_sum φ n f) (field_sum φ n g) (f n) (g n)
 
   pub range_prod : (n c : ℕ) (f : ℕ → ℕ) → field_sum φ n (λ i. prod c (f i)) ≡ prod c (field_sum φ n f)
   unfolding field_sum
@@ -41,34 +41,34 @@ module _ (φ : FieldModel) (laws : FieldLaws φ) where
   pub range_one : (n k : ℕ) (f : ℕ → ℕ) → k < n → f k < order → ((i : ℕ) → i < n → i ≢ k → f i ≡ 0) → field_sum φ n f ≡ f k
   unfolding field_sum
   range_one zero k f l hk h = absurd (omega arith)
-  range_one (suc n) k f l hk h = go (ℕ_discrete n k) (λ d. range_one n k f (omega arith) hk (λ i l' d. h i (omega arith) d))
-    where
-      go : Dec (n ≡ k) → (n ≢ k → field_sum φ n f ≡ f k) → sum (field_sum φ n f) (f n) ≡ f k
-      go (yes e) _ = ap₂ sum (range_zero n f (λ i l'. h i (omega arith) (omega arith))) (ap f e) ∙ zero_sum φ laws (f k) hk
-      go (no ne) r = ap₂ sum (r ne) (h n (omega arith) ne) ∙ sum_zero (f k) hk
+  range_one (suc n) k f l hk h = elim (ℕ_discrete n k) [
+    | yes e ↦ ap₂ sum (range_zero n f (λ i j. h i (omega arith) (omega arith))) (ap f e) ∙ zero_sum φ laws (f k) hk
+    | no d ↦ ap₂ sum (range_one n k f (omega arith) hk (λ i j. h i (omega arith))) (h n (omega arith) d) ∙ sum_zero (f k) hk
+  ]
 
   -- two sums that are equal, and equal at all places but one, are equal there
   pub range_but : (n k : ℕ) (f g : ℕ → ℕ) → k < n → ((i : ℕ) → i < n → f i < order) → ((i : ℕ) → i < n → g i < order)
       → ((i : ℕ) → i < n → i ≢ k → f i ≡ g i) → field_sum φ n f ≡ field_sum φ n g → f k ≡ g k
   unfolding field_sum
   range_but zero k f g l hf hg h e = absurd (omega arith)
-  range_but (suc n) k f g l hf hg h e = go (ℕ_discrete n k) (λ d r. range_but n k f g (omega arith) (λ i l'. hf i (omega arith)) (λ i l'. hg i (omega arith)) (λ i l' d'. h i (omega arith) d') r)
-    where
-      go : Dec (n ≡ k) → (n ≢ k → field_sum φ n f ≡ field_sum φ n g → f k ≡ g k) → f k ≡ g k
-      go (yes s) _ =
-          let p = range_ext n f g (λ i l'. h i (omega arith) (omega arith)) in
-          ap f (sym s) ∙ sum_cancel φ laws (field_sum φ n f) (f n) (g n) (hf n (omega arith)) (hg n (omega arith)) (e ∙ ap (λ x. sum x (g n)) (sym p)) ∙ ap g s
-      go (no d) r = r d (sum_cancel φ laws (f n) (field_sum φ n f) (field_sum φ n g) (range_code n f) (range_code n g)
-          (sum_comm (f n) (field_sum φ n f) ∙ e ∙ sum_comm (field_sum φ n g) (g n) ∙ ap (λ x. sum x (field_sum φ n g)) (sym (h n (omega arith) d))))
+  range_but (suc n) k f g l hf hg h e = elim (ℕ_discrete n k) [
+    | yes s ↦
+        let p = range_ext n f g (λ i j. h i (omega arith) (omega arith)) in
+        ap f (sym s) ∙ sum_cancel φ laws (field_sum φ n f) (f n) (g n) (hf n (omega arith)) (hg n (omega arith)) (e ∙ ap (λ x. sum x (g n)) (sym p)) ∙ ap g s
+    | no d ↦
+        range_but n k f g (omega arith) (λ i j. hf i (omega arith)) (λ i j. hg i (omega arith)) (λ i j. h i (omega arith))
+        (sum_cancel_right φ laws (f n) (field_sum φ n f) (field_sum φ n g) (range_code n f) (range_code n g)
+        (e ∙ ap (sum (field_sum φ n g)) (sym (h n (omega arith) d))))
+  ]
 
   -- one place more
   pub range_more : (n k : ℕ) (f g : ℕ → ℕ) → k < n → f k ≡ 0 → g k < order → ((i : ℕ) → i < n → i ≢ k → g i ≡ f i) → field_sum φ n g ≡ sum (field_sum φ n f) (g k)
   unfolding field_sum
   range_more zero k f g l z hg h = absurd (omega arith)
-  range_more (suc n) k f g l z hg h = go (ℕ_discrete n k) (λ d. range_more n k f g (omega arith) z hg (λ i l' d'. h i (omega arith) d'))
-    where
-      go : Dec (n ≡ k) → (n ≢ k → field_sum φ n g ≡ sum (field_sum φ n f) (g k)) → sum (field_sum φ n g) (g n) ≡ sum (sum (field_sum φ n f) (f n)) (g k)
-      go (yes s) _ =
-          ap₂ sum (range_ext n g f (λ i l'. h i (omega arith) (omega arith)) ∙ sym (sum_zero (field_sum φ n f) (range_code n f)) ∙ ap (sum (field_sum φ n f)) (sym (ap f s ∙ z))) (ap g s)
-      go (no d) r =
-          ap₂ sum (r d) (h n (omega arith) d) ∙ sum_assoc (field_sum φ n f) (g k) (f n) ∙ ap (sum (field_sum φ n f)) (sum_comm (g k) (f n)) ∙ sym (sum_assoc (field_sum φ n f) (f n) (g k))
+  range_more (suc n) k f g l z hg h = elim (ℕ_discrete n k) [
+    | yes s ↦
+        ap₂ sum (range_ext n g f (λ i j. h i (omega arith) (omega arith)) ∙ sym (sum_zero (field_sum φ n f) (range_code n f)) ∙ ap (sum (field_sum φ n f)) (sym (ap f s ∙ z))) (ap g s)
+    | no d ↦
+        ap₂ sum (range_more n k f g (omega arith) z hg (λ i j. h i (omega arith))) (h n (omega arith) d) 
+        ∙ sum_assoc (field_sum φ n f) (g k) (f n) ∙ ap (sum (field_sum φ n f)) (sum_comm (g k) (f n)) ∙ sym (sum_assoc (field_sum φ n f) (f n) (g k))
+  ]

@@ -1,7 +1,8 @@
 -- What follows at once from the laws of a field.
 use Rattle.std.proofs.Common.{◌≡◌, ℕ, ◌<◌, ◌≢◌, sym, ap, ◌∙◌, ap₂, arith}
-use Rattle.field.specs.Model.{FieldModel}
+use Rattle.field.specs.Model.{FieldModel, as_code}
 use Rattle.field.specs.Laws.{FieldLaws}
+use Rattle.field.proofs.Codes.{code_lt}
 
 module _ (φ : FieldModel) (laws : FieldLaws φ) where
   open φ use {order, sum, neg, prod, inv}
@@ -10,17 +11,29 @@ module _ (φ : FieldModel) (laws : FieldLaws φ) where
   pub zero_code : 0 < order
   zero_code = let h = more in omega arith
 
+  -- what a number is read as is a code
+  pub read_lt : (a x : ℕ) → x ≡ as_code order a → x < order
+  read_lt a x e = rw e (code_lt order a zero_code)
+
   pub zero_sum : (a : ℕ) → a < order → sum 0 a ≡ a
   zero_sum a h = sum_comm 0 a ∙ sum_zero a h
 
   pub one_prod : (a : ℕ) → a < order → prod 1 a ≡ a
   one_prod a h = prod_comm 1 a ∙ prod_one a h
 
+  pub neg_sum : (a : ℕ) → sum (neg a) a ≡ 0
+  neg_sum a = sum_comm (neg a) a ∙ sum_neg a
+
+  -- -a + (a + x) = x
+  pub undo : (a x : ℕ) → x < order → sum (neg a) (sum a x) ≡ x
+  undo a x h = sym (sum_assoc (neg a) a x) ∙ ap (λ y. sum y x) (neg_sum a) ∙ zero_sum x h
+
+  pub sum_cancel : (a b c : ℕ) → b < order → c < order → sum a b ≡ sum a c → b ≡ c
+  sum_cancel a b c hb hc e = sym (undo a b hb) ∙ ap (sum (neg a)) e ∙ undo a c hc
+
   -- a sum that leaves its left part as it is adds 0
   pub sum_stays : (a b : ℕ) → b < order → sum a b ≡ a → b ≡ 0
-  sum_stays a b h e =
-      let p : sum (neg a) (sum a b) ≡ b = sym (sum_assoc (neg a) a b) ∙ ap (λ x. sum x b) (sum_comm (neg a) a ∙ sum_neg a) ∙ zero_sum b h in
-      sym p ∙ ap (sum (neg a)) e ∙ sum_comm (neg a) a ∙ sum_neg a
+  sum_stays a b h e = sym (undo a b h) ∙ ap (sum (neg a)) e ∙ neg_sum a
 
   pub prod_zero : (a : ℕ) → prod a 0 ≡ 0
   prod_zero a = sum_stays (prod a 0) (prod a 0) (prod_code a 0) (sym (prod_sum a 0 0) ∙ ap (prod a) (sum_zero 0 zero_code))
@@ -37,25 +50,17 @@ module _ (φ : FieldModel) (laws : FieldLaws φ) where
   pub sum_prod : (a b c : ℕ) → prod (sum a b) c ≡ sum (prod a c) (prod b c)
   sum_prod a b c = prod_comm (sum a b) c ∙ prod_sum c a b ∙ ap₂ sum (prod_comm c a) (prod_comm c b)
 
+  -- a factor that is not 0 is taken off
+  pub divide : (a x : ℕ) → a < order → x < order → a ≢ 0 → prod (inv a) (prod a x) ≡ x
+  divide a x ha hx n = sym (prod_assoc (inv a) a x) ∙ ap (λ y. prod y x) (prod_comm (inv a) a ∙ prod_inv a ha n) ∙ one_prod x hx
+
   -- no zero divisors
   pub prod_cancel : (a b : ℕ) → a < order → b < order → a ≢ 0 → prod a b ≡ 0 → b ≡ 0
-  prod_cancel a b ha hb n e =
-      let p : prod (inv a) (prod a b) ≡ b = sym (prod_assoc (inv a) a b) ∙ ap (λ x. prod x b) (prod_comm (inv a) a ∙ prod_inv a ha n) ∙ one_prod b hb in
-      sym p ∙ ap (prod (inv a)) e ∙ prod_zero (inv a)
+  prod_cancel a b ha hb n e = sym (divide a b ha hb n) ∙ ap (prod (inv a)) e ∙ prod_zero (inv a)
 
   -- the difference
   pub minus_eq : (a b : ℕ) → a < order → b < order → sum a (neg b) ≡ 0 → a ≡ b
-  minus_eq a b ha hb e =
-      sym (sum_zero a ha) ∙ ap (sum a) (sym (sum_comm (neg b) b ∙ sum_neg b)) ∙ sym (sum_assoc a (neg b) b) ∙ ap (λ x. sum x b) e ∙ zero_sum b hb
-
-  pub one_not_zero : prod 1 1 ≢ 0
-  one_not_zero e = let p : ◌≡◌ {A = ℕ} 1 0 = sym (prod_one 1 more) ∙ e in omega arith
-
-  pub sum_cancel : (a b c : ℕ) → b < order → c < order → sum a b ≡ sum a c → b ≡ c
-  sum_cancel a b c hb hc e = sym (undo b hb) ∙ ap (sum (neg a)) e ∙ undo c hc
-    where
-      undo : (x : ℕ) → x < order → sum (neg a) (sum a x) ≡ x
-      undo x h = sym (sum_assoc (neg a) a x) ∙ ap (λ y. sum y x) (sum_comm (neg a) a ∙ sum_neg a) ∙ zero_sum x h
+  minus_eq a b ha hb e = sum_cancel (neg b) a b ha hb (sum_comm (neg b) a ∙ e ∙ sym (neg_sum b))
 
   -- a number that is no code counts in a sum as in a product
   sum_as : (a b : ℕ) → b < order → sum a b ≡ sum (prod 1 a) b
@@ -70,4 +75,4 @@ module _ (φ : FieldModel) (laws : FieldLaws φ) where
   pub inverse_only : (a x : ℕ) → a < order → x < order → prod a x ≡ 1 → x ≡ inv a
   inverse_only a x ha hx e =
       let nz : a ≢ 0 = λ z. let p : ◌≡◌ {A = ℕ} 1 0 = sym e ∙ ap (λ y. prod y x) z ∙ zero_prod x in omega arith in
-      sym (one_prod x hx) ∙ ap (λ y. prod y x) (sym (prod_comm (inv a) a ∙ prod_inv a ha nz)) ∙ prod_assoc (inv a) a x ∙ ap (prod (inv a)) e ∙ prod_one (inv a) (inv_code a)
+      sym (divide a x ha hx nz) ∙ ap (prod (inv a)) e ∙ prod_one (inv a) (inv_code a)

@@ -1,14 +1,15 @@
 -- Powers of 2 in the field of 256: products and inverses by the tables are the defined ones.
-use Rattle.std.specs.Prelude.{◌≡◌, ℕ, zero, suc, ◌+◌, ◌-◌, ◌<◌, Bool, true, cond, T, List, [], ◌∷◌, length, Some, None, Option, ◌==◌, bit_xor, nat_eq, nat_lt, slice_index, slice_index_or, refl}
-use Rattle.std.proofs.Common.{sym, ap, ap₂, ◌∙◌, arith, zero-add, suc-add, add_comm, lit<, eqb→eq, ltb→lt}
-use Rattle.std.proofs.lemmas.Bool.{ne_eqb}
+use Rattle.std.specs.Prelude.{◌≡◌, ℕ, zero, suc, ◌+◌, ◌-◌, ◌<◌, Bool, true, ◌&&◌, T, List, [], ◌∷◌, length, Some, ◌==◌, bit_xor, nat_lt, slice_index, slice_index_or, refl}
+use Rattle.std.proofs.Common.{sym, ap, ap₂, ◌∙◌, arith, zero-add, suc-add, add_comm, lit<}
+use Rattle.std.proofs.lemmas.Bool.{and_parts, eqb-true, ltb-true}
 use Rattle.field.specs.Model.{inverse}
 use Rattle.field.specs.Polynomials.{bit, scaled}
-use Rattle.field.specs.Defined.{degree, modulus, defined_sum, defined_neg, defined_prod, defined_inv, defined_field}
+use Rattle.field.specs.Defined.{degree, modulus, defined_sum, defined_neg, defined_prod, defined_field}
 use Rattle.field.specs.Laws.{FieldLaws}
 use Rattle.field.proofs.Codes.{code_is}
-use Rattle.field.proofs.Ring.{inverse_only, zero_prod, prod_zero}
-use Rattle.field_theory.proofs.Scan.{both, both_left, both_right, at}
+use Rattle.field.proofs.Ring.{zero_prod, prod_zero}
+use Rattle.field.proofs.Quotients.{inverse_by}
+use Rattle.field_theory.proofs.Scan.{is_true, at}
 use Rattle.field_theory.proofs.Horner.{times_x, horner, dbl_lt, mul_dbl, mul_one_left}
 use Rattle.field_theory.proofs.Binary.{by_horner, sum_is, neg_is}
 use Rattle.field_theory.proofs.Lawful.{binary_field_lawful}
@@ -59,37 +60,39 @@ full = refl
 -- each entry is the one before it times x
 abbrev chain : ℕ → List ℕ → Bool
 chain a [] = true
-chain a (x ∷ xs) = both (x == a) (chain (times_x 8 285 a) xs)
+chain a (x ∷ xs) = (x == a) && chain (times_x 8 285 a) xs
 
-chained : (a : ℕ) (xs : List ℕ) → T (chain a xs) → (i : ℕ) → i < length xs → slice_index xs i ≡ raised i a
+chained : (a : ℕ) (xs : List ℕ) → chain a xs ≡ true → (i : ℕ) → i < length xs → slice_index xs i ≡ raised i a
 unfolding raised
 chained a [] t i h = absurd (omega arith)
-chained a (x ∷ xs) t zero h = eqb→eq x a (both_left (x == a) (chain (times_x 8 285 a) xs) t)
-chained a (x ∷ xs) t (suc i) h = chained (times_x 8 285 a) xs (both_right (x == a) (chain (times_x 8 285 a) xs) t) i (omega arith)
+chained a (x ∷ xs) t zero h = eqb-true x a (and_parts (x == a) (chain (times_x 8 285 a) xs) t).0
+chained a (x ∷ xs) t (suc i) h = chained (times_x 8 285 a) xs (and_parts (x == a) (chain (times_x 8 285 a) xs) t).1 i (omega arith)
 
 antilog_is : (i : ℕ) → i < 510 → slice_index antilogs i ≡ raised i 1
 unfolding antilogs times_x bit scaled
-antilog_is i h = chained 1 antilogs tt i h
+antilog_is i h = chained 1 antilogs refl i h
 
 -- the logarithm is below 255, and its power is the number
 log_test : ℕ → ℕ → Bool
-log_test k l = both (nat_lt l 255) (slice_index antilogs l == suc k)
+log_test k l = nat_lt l 255 && (slice_index antilogs l == suc k)
 
 log_good : (a : ℕ) → 0 < a → a < 256 → T (log_test (a - 1) (slice_index logs (a - 1)))
 unfolding log_test antilogs logs
 log_good a p h = at log_test logs tt (a - 1) (omega arith)
 
-pub log_lt : (a : ℕ) → 0 < a → a < 256 → slice_index logs (a - 1) < 255
+log_parts : (a : ℕ) → 0 < a → a < 256
+    → (nat_lt (slice_index logs (a - 1)) 255 ≡ true) × ((slice_index antilogs (slice_index logs (a - 1)) == suc (a - 1)) ≡ true)
 unfolding log_test
-log_lt a p h = ltb→lt (slice_index logs (a - 1)) 255 (both_left (nat_lt (slice_index logs (a - 1)) 255) (slice_index antilogs (slice_index logs (a - 1)) == suc (a - 1)) (log_good a p h))
+log_parts a p h = and_parts _ _ (is_true (log_test (a - 1) (slice_index logs (a - 1))) (log_good a p h))
+
+pub log_lt : (a : ℕ) → 0 < a → a < 256 → slice_index logs (a - 1) < 255
+log_lt a p h = ltb-true (slice_index logs (a - 1)) 255 (log_parts a p h).0
 
 log_is : (a : ℕ) → 0 < a → a < 256 → raised (slice_index logs (a - 1)) 1 ≡ a
-unfolding log_test
 log_is a p h =
+    let i = slice_index_or logs (a - 1) 0 in
     let l = log_lt a p h in
-    sym (antilog_is (slice_index logs (a - 1)) (omega arith))
-    ∙ eqb→eq (slice_index antilogs (slice_index logs (a - 1))) (suc (a - 1)) (both_right (nat_lt (slice_index logs (a - 1)) 255) (slice_index antilogs (slice_index logs (a - 1)) == suc (a - 1)) (log_good a p h))
-    ∙ omega arith
+    sym (antilog_is i (omega arith)) ∙ eqb-true (slice_index antilogs i) (suc (a - 1)) (log_parts a p h).1 ∙ omega arith
 
 pub two_logs : (a b : ℕ) → 0 < a → a < 256 → 0 < b → b < 256 → slice_index logs (a - 1) + slice_index logs (b - 1) < 510
 two_logs a b pa ha pb hb = omega (arith, log_lt a pa ha, log_lt b pb hb)
@@ -115,8 +118,7 @@ inverse_read a p h =
     let hx = raised_lt (255 - i) 1 (lit< tt) in
     let e : defined_prod 256 a x ≡ 1
     = product_is a x h hx ∙ ap (λ y. mul y x) (sym (log_is a p h)) ∙ mul_powers i (255 - i) ∙ ap (λ k. raised k 1) (omega arith) ∙ full in
-    ap Some (antilog_is (255 - i) (omega arith) ∙ inverse_only (defined_field 256) lawful a x h hx e)
-    ∙ sym (ap (λ (b : Bool). cond {A = Option ℕ} b None (Some (defined_inv 256 a))) (ap (λ n. nat_eq n 0) (code_is 256 a h) ∙ ne_eqb a 0 (λ z. omega arith)))
+    ap Some (antilog_is (255 - i) (omega arith)) ∙ inverse_by (defined_field 256) lawful a a x (sym (code_is 256 a h)) (λ z. omega arith) hx e
 
 pub sum_read : (a b : ℕ) → a < 256 → b < 256 → bit_xor a b ≡ defined_sum 256 a b
 sum_read a b ha hb = sym (sum_is 256 refl a b ∙ ap₂ bit_xor (code_is 256 a ha) (code_is 256 b hb))

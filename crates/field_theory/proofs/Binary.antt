@@ -65,7 +65,7 @@ module _ (m p : ℕ) (hp : p < 2 ^ m) (hm : 0 < m) (binary : among (2 ^ m) prime
   reads_left a x = by_horner a x ∙ ap (λ y. mul y (c x)) (sym (c_c a)) ∙ sym (by_horner (c a) x)
 
   -- given inverses, by a list
-  module _ (small : 2 ^ m ≤ 256) (table : List ℕ) (size : length table ≡ 2 ^ m) (test : T (every (undone (2 ^ m)) 0 table)) where
+  module _ (small : 2 ^ m ≤ 256) (table : List ℕ) (size : length table ≡ 2 ^ m) (test : T (every (undone (2 ^ m)) table)) where
     abbrev model : FieldModel
     model = record { order = 2 ^ m; sum = binary_sum (2 ^ m); neg = c; prod = λ a b. mul (c a) (c b); inv = defined_inv (2 ^ m) }
 
@@ -85,8 +85,8 @@ module _ (m p : ℕ) (hp : p < 2 ^ m) (hm : 0 < m) (binary : among (2 ^ m) prime
       prod_code = p_lt;
       inv_code = inverse_lt (2 ^ m) (pow_pos m) table size test;
       sum_comm = λ a b. xor_comm (c a) (c b);
-      sum_assoc = λ a b d. ap (λ x. bit_xor x (c d)) (c_x a b) ∙ xor_assoc (c a) (c b) (c d) ∙ ap (bit_xor (c a)) (sym (c_x b d));
-      sum_zero = λ a h. ap₂ bit_xor (code_is (2 ^ m) a h) (code_is (2 ^ m) 0 (pow_pos m)) ∙ xor_zero_r a;
+      sum_assoc = λ a b d. simp (c_x, xor_assoc);
+      sum_zero = λ a h. rw (code_is (2 ^ m) a h, code_is (2 ^ m) 0 (pow_pos m)) (xor_zero_r a);
       sum_neg = λ a. ap (bit_xor (c a)) (c_c a) ∙ xor_self (c a);
       prod_comm = λ a b. mul_comm m p hp (c a) (c b) (c_lt a) (c_lt b);
       prod_assoc = λ a b d. ap (λ x. mul x (c d)) (c_p a b) ∙ mul_assoc m p hp m (c a) (c b) (c d) (c_lt a) (c_lt b) ∙ ap (mul (c a)) (sym (c_p b d));

@@ -45,12 +45,10 @@ module _ (m p : ℕ) (hp : p < 2 ^ m) where
       ∙ xor_block m 1 1 d p h hp ∙ ap (λ x. x + bit_xor d p) (zero-mul (2 ^ m)) ∙ zero-add (bit_xor d p)
 
   pub dbl_lt : (a : ℕ) → a < 2 ^ m → dbl a < 2 ^ m
-  dbl_lt a h = go (cases_lt (a * 2) (2 ^ m))
-    where
-      go : (a * 2 < 2 ^ m) ⊎ (2 ^ m ≤ a * 2) → dbl a < 2 ^ m
-      go (inl l) = subst (λ x. x < 2 ^ m) (sym (dbl_small a l)) l
-      go (inr l) = let d = le_dest l in let e = d.1 in
-          subst (λ x. x < 2 ^ m) (sym (dbl_large a d.0 (omega arith) (omega arith))) (xor_lt m d.0 p (omega arith) hp)
+  dbl_lt a h = elim (cases_lt (a * 2) (2 ^ m)) [
+    | inl l ↦ rw (dbl_small a l) l
+    | inr l ↦ let d = le_dest l in let e = d.1 in rw (dbl_large a d.0 (omega arith) (omega arith)) (xor_lt m d.0 p (omega arith) hp)
+  ]
 
   dbl_zero : dbl 0 ≡ 0
   dbl_zero = dbl_small 0 (pow_pos m)

@@ -1,24 +1,21 @@
 -- What is defined for each listed order is a field.
-use Rattle.std.proofs.Common.{ℕ, Bool, true, false, ◌||◌, T, eqb, List, [], ◌∷◌, sym, refl, subst, lit<, lit≤, eqb→eq}
+use Rattle.std.proofs.Common.{ℕ, Bool, true, false, ◌||◌, T, eqb, List, [], ◌∷◌, sym, refl, subst, lit<, lit≤, inl, inr}
+use Rattle.std.specs.List.{AllByRecursion}
+use Rattle.std.proofs.lemmas.Bool.{eqb-true, or_cases}
 use Rattle.field.specs.Polynomials.{bit, scaled, poly_product, remainder}
-use Rattle.field.specs.Defined.{among, prime_orders, binary_orders, degree, modulus, defined_prod, defined_field}
+use Rattle.field.specs.Defined.{among, prime_orders, binary_orders, listed, degree, modulus, defined_prod, defined_field}
 use Rattle.field.specs.Laws.{FieldLaws, DefinedFieldsAreLawful}
+use Rattle.field_theory.proofs.Scan.{is_true}
 use Rattle.field_theory.proofs.Modular.{modular_lawful}
 use Rattle.field_theory.proofs.Binary.{binary_lawful}
 
--- P holds of each number of a list
-abbrev pub Each : (ℕ → Type 0) → List ℕ → Type 0
-Each P [] = Unit {0}
-Each P (x ∷ xs) = P x × Each P xs
-
-pub either_way : (C : Type 0) (x y : Bool) → T (x || y) → (T x → C) → (T y → C) → C
-either_way C true y t left right = left tt
-either_way C false y t left right = right t
-
-pub each_at : (P : ℕ → Type 0) (xs : List ℕ) → Each P xs → (q : ℕ) → T (among q xs) → P q
+-- what holds of each number of a list holds of one that is among them
+pub each_at : (P : ℕ → Type 0) (xs : List ℕ) → AllByRecursion P xs → (q : ℕ) → T (among q xs) → P q
 each_at P [] e q t = absurd t
-each_at P (x ∷ xs) e q t =
-    either_way (P q) (eqb q x) (among q xs) t (λ s. subst P (sym (eqb→eq q x s)) e.0) (λ s. each_at P xs e.1 q s)
+each_at P (x ∷ xs) e q t = elim (or_cases (eqb q x) (among q xs) (is_true (among q (x ∷ xs)) t)) [
+  | inl s ↦ rw (eqb-true q x s) e.0
+  | inr s ↦ each_at P xs e.1 q (subst T (sym s) tt)
+]
 
 abbrev Lawful : ℕ → Type 0
 Lawful q = FieldLaws (defined_field q)
@@ -59,4 +56,7 @@ binary_field_lawful = each_at Lawful binary_orders (
 )
 
 pub lawful : DefinedFieldsAreLawful
-lawful q t = either_way (Lawful q) (among q prime_orders) (among q binary_orders) t (prime_lawful q) (binary_field_lawful q)
+lawful q t = elim (or_cases (among q prime_orders) (among q binary_orders) (is_true (listed q) t)) [
+  | inl s ↦ prime_lawful q (subst T (sym s) tt)
+  | inr s ↦ binary_field_lawful q (subst T (sym s) tt)
+]

@@ -1,21 +1,14 @@
 -- Reckoning modulo a prime is a field.
-use Rattle.std.proofs.Common.{◌≡◌, ℕ, ◌+◌, ◌-◌, ◌*◌, ◌/◌, ◌%◌, ◌<◌, ◌≤◌, true, T, List, length, sym, ap, ◌∙◌, subst, ap₂, add-zero, add_assoc, mod-lt, mod-eq_of_lt, mul_assoc, mul_comm, add-mul, add_comm, mul-one, mul-add, arith}
-use native.Mathlib.Nat.{add-mod, mod-add-mod, add-mod-mod, mod_self, mul-add-mod_self_left, div-add-mod}
+use Rattle.std.proofs.Common.{◌≡◌, ℕ, ◌+◌, ◌-◌, ◌*◌, ◌%◌, ◌<◌, ◌≤◌, true, T, List, length, sym, ap, ◌∙◌, subst, ap₂, add-zero, add_assoc, mod-lt, mod-eq_of_lt, mul_assoc, mul_comm, add_comm, mul-one, mul-add, arith}
+use native.Mathlib.Nat.{add-mod, mod-add-mod, add-mod-mod, mod_self}
 use Rattle.std.proofs.lemmas.Bool.{cond-true}
+use Rattle.std.proofs.lemmas.Nat.{mul-mod_first, mul-mod_second}
 use Rattle.field.specs.Model.{FieldModel, as_code}
 use Rattle.field.specs.Defined.{among, prime_orders, modular_sum, modular_neg, modular_prod, binary_sum, binary_neg, binary_prod, defined_sum, defined_neg, defined_prod, defined_inv, defined_field}
 use Rattle.field.specs.Laws.{FieldLaws}
 use Rattle.field.proofs.Codes.{code_lt, code_is, code_code}
 use Rattle.field_theory.proofs.Scan.{every}
 use Rattle.field_theory.proofs.Inverses.{undone, inverse_is, inverse_lt, inverse_reads}
-
-mod_mul_mod : (a b q : ℕ) → (a % q * b) % q ≡ (a * b) % q
-mod_mul_mod a b q =
-    sym (mul-add-mod_self_left q (a / q * b) (a % q * b))
-    ∙ ap (λ x. x % q) (ap (λ x. x + a % q * b) (sym (mul_assoc q (a / q) b)) ∙ sym (add-mul (q * (a / q)) (a % q) b) ∙ ap (λ x. x * b) (div-add-mod a q))
-
-mul_mod_mod : (a b q : ℕ) → (a * (b % q)) % q ≡ (a * b) % q
-mul_mod_mod a b q = ap (λ x. x % q) (mul_comm a (b % q)) ∙ mod_mul_mod b a q ∙ ap (λ x. x % q) (mul_comm b a)
 
 module _ (q : ℕ) (prime : among q prime_orders ≡ true) where
   pub sum_is : (a b : ℕ) → defined_sum q a b ≡ modular_sum q a b
@@ -31,7 +24,7 @@ module _ (q : ℕ) (prime : among q prime_orders ≡ true) where
   prod_is a b = cond-true (among q prime_orders) (modular_prod q a b) (binary_prod q a b) prime
 
 -- given inverses, by a list
-module _ (q : ℕ) (prime : among q prime_orders ≡ true) (one : 1 < q) (small : q ≤ 256) (table : List ℕ) (size : length table ≡ q) (test : T (every (undone q) 0 table)) where
+module _ (q : ℕ) (prime : among q prime_orders ≡ true) (one : 1 < q) (small : q ≤ 256) (table : List ℕ) (size : length table ≡ q) (test : T (every (undone q) table)) where
   pos : 0 < q
   pos = omega arith
 
@@ -72,17 +65,14 @@ module _ (q : ℕ) (prime : among q prime_orders ≡ true) (one : 1 < q) (small 
     prod_code = λ a b. mod-lt (c a * c b) pos;
     inv_code = inverse_lt q pos table size test;
     sum_comm = λ a b. ap (λ x. x % q) (add_comm (c a) (c b));
-    sum_assoc = λ a b d. ap (λ x. (x + c d) % q) (c_mod (c a + c b)) ∙ mod-add-mod (c a + c b) q (c d) ∙ ap (λ x. x % q) (add_assoc (c a) (c b) (c d))
-        ∙ sym (ap (λ x. (c a + x) % q) (c_mod (c b + c d)) ∙ add-mod-mod (c a) (c b + c d) q);
-    sum_zero = λ a h. ap (λ x. x % q) (ap₂ ◌+◌ (code_is q a h) (code_is q 0 pos) ∙ add-zero a) ∙ mod-eq_of_lt h;
+    sum_assoc = λ a b d. simp (c_mod, mod-add-mod, add-mod-mod, add_assoc);
+    sum_zero = λ a h. rw (code_is q a h, code_is q 0 pos, add-zero a) (mod-eq_of_lt h);
     sum_neg = λ a. ap (λ x. (c a + x) % q) (c_mod (q - c a)) ∙ add-mod-mod (c a) (q - c a) q ∙ ap (λ x. x % q) (let h = c_lt a in omega arith) ∙ mod_self q;
     prod_comm = λ a b. ap (λ x. x % q) (mul_comm (c a) (c b));
-    prod_assoc = λ a b d. ap (λ x. (x * c d) % q) (c_mod (c a * c b)) ∙ mod_mul_mod (c a * c b) (c d) q ∙ ap (λ x. x % q) (mul_assoc (c a) (c b) (c d))
-        ∙ sym (ap (λ x. (c a * x) % q) (c_mod (c b * c d)) ∙ mul_mod_mod (c a) (c b * c d) q);
-    prod_one = λ a h. ap (λ x. x % q) (ap₂ ◌*◌ (code_is q a h) (code_is q 1 one) ∙ mul-one a) ∙ mod-eq_of_lt h;
+    prod_assoc = λ a b d. simp (c_mod, mul-mod_first, mul-mod_second, mul_assoc);
+    prod_one = λ a h. rw (code_is q a h, code_is q 1 one, mul-one a) (mod-eq_of_lt h);
     prod_inv = λ a h nz. sym (prod_is q prime a (defined_inv q a)) ∙ inverse_is q pos table size test a h nz;
-    prod_sum = λ a b d. ap (λ x. (c a * x) % q) (c_mod (c b + c d)) ∙ mul_mod_mod (c a) (c b + c d) q ∙ ap (λ x. x % q) (mul-add (c a) (c b) (c d))
-        ∙ add-mod (c a * c b) (c a * c d) q ∙ sym (ap₂ (λ x y. (x + y) % q) (c_mod (c a * c b)) (c_mod (c a * c d)));
+    prod_sum = λ a b d. simp (c_mod, mul-mod_second, mul-add, mod-add-mod, add-mod-mod);
     listed_sum = λ t a b. sym (sum_is q prime a b);
     listed_prod = λ t a b. sym (prod_is q prime a b);
   }

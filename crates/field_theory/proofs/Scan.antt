@@ -1,29 +1,24 @@
 -- A rule of a table, proved at all of its entries by one test that antt computes, one entry after the other.
-use Rattle.std.proofs.Common.{ℕ, zero, suc, ◌+◌, ◌<◌, Bool, true, false, T, List, [], ◌∷◌, length, get_or, sym, ◌∙◌, subst, le_of_suc-le-suc, not-suc-le-zero, add-zero, add-suc, suc-add, zero-add}
+use Rattle.std.proofs.Common.{◌≡◌, ℕ, ◌<◌, Bool, true, false, T, List, length, get_or, sym, refl, ap, ◌∙◌, subst, zero-add}
+use Rattle.std.specs.List.{list_all, enumerate_from}
+use Rattle.std.proofs.lemmas.List.Elements.{All-get_or}
+use Rattle.std.proofs.lemmas.List.FromFn.{length-enumerate_from, get_or-enumerate_from}
+use Rattle.std.proofs.lemmas.List.Sums.{AllPass-from_list_all}
 
-abbrev pub both : Bool → Bool → Bool
-both true b = b
-both false b = false
+-- a test that was computed
+pub is_true : (b : Bool) → T b → b ≡ true
+is_true true t = refl
+is_true false t = absurd t
 
-pub both_left : (a b : Bool) → T (both a b) → T a
-both_left true b t = tt
-both_left false b t = t
+-- the test f passes at each entry of the list and its place
+abbrev pub every : (ℕ → ℕ → Bool) → List ℕ → Bool
+every f xs = list_all (λ e. f e.0 e.1) (enumerate_from 0 xs)
 
-pub both_right : (a b : Bool) → T (both a b) → T b
-both_right true b t = t
-both_right false b t = absurd t
-
--- the test f passes at each entry of the list and its place, counted from i
-abbrev pub every : (ℕ → ℕ → Bool) → ℕ → List ℕ → Bool
-every f i [] = true
-every f i (x ∷ xs) = both (f i x) (every f (suc i) xs)
-
-from : (f : ℕ → ℕ → Bool) (xs : List ℕ) (i : ℕ) → T (every f i xs) → (k : ℕ) → k < length xs → T (f (i + k) (get_or xs k 0))
-from f [] i t k h = absurd (not-suc-le-zero h)
-from f (x ∷ xs) i t zero h = subst (λ (m : ℕ). T (f m x)) (sym (add-zero i)) (both_left (f i x) (every f (suc i) xs) t)
-from f (x ∷ xs) i t (suc k) h =
-    subst (λ (m : ℕ). T (f m (get_or xs k 0))) (suc-add i k ∙ sym (add-suc i k))
-    (from f xs (suc i) (both_right (f i x) (every f (suc i) xs) t) k (le_of_suc-le-suc h))
-
-pub at : (f : ℕ → ℕ → Bool) (xs : List ℕ) → T (every f 0 xs) → (k : ℕ) → k < length xs → T (f k (get_or xs k 0))
-at f xs t k h = subst (λ (m : ℕ). T (f m (get_or xs k 0))) (zero-add k) (from f xs 0 t k h)
+pub at : (f : ℕ → ℕ → Bool) (xs : List ℕ) → T (every f xs) → (k : ℕ) → k < length xs → T (f k (get_or xs k 0))
+at f xs t k h =
+    let places = enumerate_from 0 xs in
+    let all_pass = AllPass-from_list_all (λ e. f e.0 e.1) places (is_true (every f xs) t) in
+    let entry : get_or places k (0, 0) ≡ (k, get_or xs k 0) = get_or-enumerate_from 0 xs k (0, 0) h ∙ ap (λ n. (n, get_or xs k 0)) (zero-add k) in
+    let passes : f k (get_or xs k 0) ≡ true =
+    ap (λ e. f e.0 e.1) (sym entry) ∙ All-get_or (λ e. f e.0 e.1 ≡ true) places k (0, 0) (subst (λ n. k < n) (sym (length-enumerate_from 0 xs)) h) all_pass in
+    subst T (sym passes) tt

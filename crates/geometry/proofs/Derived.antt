@@ -1,20 +1,17 @@
 -- What follows at once from the laws of a geometry.
-use Rattle.std.proofs.Common.{◌≡◌, ℕ, ◌+◌, ◌*◌, ◌%◌, ◌<◌, sym, refl, ap, ◌∙◌, subst, mod-lt, div-lt_iff_lt-mul, div-add-mod'}
-use lib.Arith.{digits_lt, digits_div, digits_mod}
-use Rattle.geometry.specs.Model.{GeometryModel, edges, line_of}
+use Rattle.std.proofs.Common.{◌≡◌, ℕ, ◌+◌, ◌*◌, ◌%◌, ◌<◌, sym, refl, ap, ◌∙◌, subst, mod-lt, div-add-mod'}
+use lib.Arith.{digits_lt, digits_div}
+use Rattle.std.proofs.lemmas.Nat.{div_below}
+use Rattle.geometry.specs.Model.{GeometryModel, line_of}
 use Rattle.geometry.specs.Incidence.{On}
 use Rattle.geometry.specs.Laws.{GeometryLaws}
-
--- the line of an edge is not beyond the last
-pub line_in : (g : GeometryModel) → 0 < g.line_degree → (e : ℕ) → e < edges g → line_of g e < g.lines
-line_in g h e he = (div-lt_iff_lt-mul {k = g.line_degree} {x = e} {y = g.lines} h).1 he
 
 module _ (g : GeometryModel) (laws : GeometryLaws g) where
   -- what is incident is not beyond the last
   pub on_in : (p l : ℕ) → On g p l → (p < g.points) × (l < g.lines)
   on_in p l o = (
     subst (λ n. n < g.points) o.2 (laws.point_in o.0 o.1),
-    subst (λ n. n < g.lines) o.3 (line_in g laws.some_line_degree o.0 o.1),
+    subst (λ n. n < g.lines) o.3 (div_below o.0 g.line_degree g.lines laws.some_line_degree o.1),
   )
 
   -- the edge at each seat of a point lies on it and on its line
@@ -38,24 +35,3 @@ module _ (g : GeometryModel) (laws : GeometryLaws g) where
   at_place p l o =
       let u = g.line_degree in
       (o.0 % u, mod-lt o.0 laws.some_line_degree, ap g.point (ap (λ x. x * u + o.0 % u) (sym o.3) ∙ div-add-mod' o.0 u) ∙ o.2)
-
-  -- a point and a line have at most one edge
-  pub one_edge : (p l : ℕ) (a b : On g p l) → a.0 ≡ b.0
-  one_edge p l a b = laws.apart a.0 b.0 a.1 b.1 (a.2 ∙ sym b.2) (a.3 ∙ sym b.3)
-
-  -- two seats of a point hold different lines
-  pub seats_apart : (p i j : ℕ) → p < g.points → i < g.point_degree → j < g.point_degree
-      → line_of g (g.edge p i) ≡ line_of g (g.edge p j) → i ≡ j
-  seats_apart p i j hp hi hj e =
-      sym (laws.seat_edge p i hp hi)
-      ∙ ap g.seat (laws.apart (g.edge p i) (g.edge p j) (laws.edge_in p i hp hi) (laws.edge_in p j hp hj) (laws.point_edge p i hp hi ∙ sym (laws.point_edge p j hp hj)) e)
-      ∙ laws.seat_edge p j hp hj
-
-  -- two seats of a line hold different points
-  pub places_apart : (l i j : ℕ) → l < g.lines → i < g.line_degree → j < g.line_degree
-      → g.point (l * g.line_degree + i) ≡ g.point (l * g.line_degree + j) → i ≡ j
-  places_apart l i j hl hi hj e =
-      let u = g.line_degree in
-      sym (digits_mod l hi)
-      ∙ ap (λ n. n % u) (laws.apart (l * u + i) (l * u + j) (digits_lt hl hi) (digits_lt hl hj) e (digits_div l hi ∙ sym (digits_div l hj)))
-      ∙ digits_mod l hj

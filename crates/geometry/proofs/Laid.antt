@@ -1,29 +1,23 @@
 -- A layout that keeps to a rule of incidence is a lawful geometry with that incidence and rising seats.
-use Rattle.std.proofs.Common.{◌≡◌, ℕ, ◌+◌, ◌*◌, ◌/◌, ◌%◌, ◌<◌, sym, refl, ap, ◌∙◌, subst, ap₂, mod-lt, div-add-mod', arith}
-use native.Mathlib.Decide.{dec_lt}
+use Rattle.std.proofs.Common.{◌≡◌, ℕ, ◌+◌, ◌*◌, ◌/◌, ◌%◌, ◌<◌, ◌↔◌, sym, refl, ap, ◌∙◌, subst, ap₂, mod-lt, div-add-mod', arith}
 use lib.Arith.{digits_lt, digits_div, digits_mod}
+use Rattle.std.proofs.lemmas.Nat.{div_below}
 use Rattle.geometry.specs.Model.{GeometryModel, edges}
 use Rattle.geometry.specs.Incidence.{On}
 use Rattle.geometry.specs.Laws.{GeometryLaws}
 use Rattle.geometry.specs.Seats.{Rising}
 use Rattle.geometry.specs.Layouts.{Layout, laid}
-use Rattle.geometry.proofs.Derived.{line_in}
 use Rattle.geometry.proofs.Sides.{Side, LayoutLaws}
 
 module _ (n m s : ℕ) (Inc : ℕ → ℕ → Type 0) (at seat : ℕ → ℕ → ℕ) (S : Side n m s Inc at seat) where
   -- the seat of what stands at a seat is that seat, since the vertices opposite rise
   pub seat_is : (v i : ℕ) → v < n → i < s → seat v (at v i) ≡ i
   seat_is v i hv hi =
-      let w = at v i in
-      let hw = S.at_in v i hv hi in
+      let k = seat v (at v i) in
       let inc = S.at_inc v i hv hi in
-      let k = seat v w in
-      let hk = S.seat_in v w hv hw inc in
-      let same = S.at_seat v w hv hw inc in
-      elim (dec_lt k i) [
-        | yes lt ↦ let r = S.at_rise v k i hv lt hi in absurd (omega arith)
-        | no nl ↦ elim (dec_lt i k) [ yes gt ↦ let r = S.at_rise v i k hv gt hk in absurd (omega arith) | no ng ↦ omega arith ]
-      ]
+      let hk = S.seat_in v (at v i) hv (S.at_in v i hv hi) inc in
+      let same = S.at_seat v (at v i) hv (S.at_in v i hv hi) inc in
+      grind (arith, S.at_rise v k i hv, S.at_rise v i k hv)
 
 module _ (y : Layout) (Inc : ℕ → ℕ → Type 0) (laws : LayoutLaws y Inc) where
   open y use {points, lines, point_degree, line_degree, line_at, seat_at, point_on, seat_on}
@@ -36,7 +30,7 @@ module _ (y : Layout) (Inc : ℕ → ℕ → Type 0) (laws : LayoutLaws y Inc) w
   g = laid y
 
   line_lt : (e : ℕ) → e < lines * u → e / u < lines
-  line_lt e h = line_in g some_line_degree e h
+  line_lt e h = div_below e u lines some_line_degree h
 
   place_lt : (e : ℕ) → e % u < u
   place_lt e = mod-lt e some_line_degree
@@ -88,6 +82,9 @@ module _ (y : Layout) (Inc : ℕ → ℕ → Type 0) (laws : LayoutLaws y Inc) w
 
   pub inc_on : (p l : ℕ) → p < points → l < lines → Inc p l → On g p l
   inc_on p l hp hl inc = (joint p l, joint_in p l hp hl inc, joint_point p l hp hl inc, joint_line p l hp hl inc)
+
+  pub by_rule : (p l : ℕ) → p < points → l < lines → On g p l ↔ Inc p l
+  by_rule p l hp hl = (λ o. (on_inc p l o).2, inc_on p l hp hl)
 
   edge_is : (p i : ℕ) → g.edge p i ≡ joint p (line_at p i)
   unfolding joint

@@ -3,4 +3,5 @@ pub mod Derived
 pub mod Sides
 pub mod Laid
 pub mod Pinned
+pub mod Only
 pub mod Limits

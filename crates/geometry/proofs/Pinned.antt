@@ -1,13 +1,13 @@
 -- Counts, incidence and rising seats leave no choice: they fix every answer.
-use Rattle.std.proofs.Common.{◌≡◌, ℕ, zero, suc, ◌+◌, ◌*◌, ◌/◌, ◌%◌, ◌<◌, ◌≤◌, Bool, true, false, cond, ltb, Some, None, Option, sym, refl, ap, ◌∙◌, subst, ap₂, mod-lt, div-add-mod', arith}
-use native.Mathlib.Decide.{dec_lt}
-use Rattle.std.proofs.lemmas.Bool.{ltb-true}
+use Rattle.std.proofs.Common.{◌≡◌, ℕ, zero, suc, ◌+◌, ◌*◌, ◌/◌, ◌%◌, ◌<◌, ◌≤◌, sym, ap, ◌∙◌, subst, ap₂, mod-lt, div-add-mod', arith}
+use Rattle.std.proofs.lemmas.Bool.Decides.{nat_tests}
+use Rattle.std.proofs.lemmas.Nat.{div_below}
 use Rattle.geometry.specs.Model.{GeometryModel, edges, line_of}
 use Rattle.geometry.specs.Incidence.{On}
 use Rattle.geometry.specs.Laws.{GeometryLaws}
 use Rattle.geometry.specs.Seats.{Rising}
 use Rattle.geometry.specs.Agreement.{Agree}
-use Rattle.geometry.proofs.Derived.{line_in, edge_on, seat_on, at_seat, at_place}
+use Rattle.geometry.proofs.Derived.{edge_on, seat_on, at_seat, at_place}
 
 -- a row of s numbers that rise, and one whose members are all in another
 abbrev Rows : ℕ → (ℕ → ℕ) → Type 0
@@ -20,15 +20,7 @@ Within s f h = (i : ℕ) → i < s → (j : ℕ) × (j < s) × (h j ≡ f i)
 least : (s : ℕ) (f h : ℕ → ℕ) → Rows s f → Rows s h → Within s f h → (i : ℕ) → i < s → ((k : ℕ) → k < i → f k ≡ h k) → h i ≤ f i
 least s f h rf rh to i hi below =
     let t = to i hi in
-    let j = t.0 in
-    let e = t.2 in
-    elim (dec_lt j i) [
-      | yes lt ↦ let a = below j lt in let b = rf j i lt hi in omega arith
-      | no nl ↦ elim (dec_lt i j) [
-        | yes gt ↦ let b = rh i j gt t.1 in omega arith
-        | no ng ↦ let same : j ≡ i = omega arith in let b = ap h same in omega arith
-      ]
-    ]
+    grind (arith, t.1, t.2, below t.0, rf t.0 i, rh i t.0)
 
 -- two rising rows with the same members are the same row
 row : (s : ℕ) (f h : ℕ → ℕ) → Rows s f → Rows s h → Within s f h → Within s h f → (n i : ℕ) → i < n → i < s → f i ≡ h i
@@ -106,7 +98,7 @@ module _ (g h : GeometryModel) (L : GeometryLaws g) (M : GeometryLaws h) (R : Ri
   same_point e he =
       let u = g.line_degree in
       ap g.point (sym (div-add-mod' e u))
-      ∙ same_seat_point (e / u) (e % u) (line_in g L.some_line_degree e he) (mod-lt e L.some_line_degree)
+      ∙ same_seat_point (e / u) (e % u) (div_below e u g.lines L.some_line_degree he) (mod-lt e L.some_line_degree)
       ∙ ap (λ v. h.point (e / u * v + e % u)) (sym A.line_degrees_alike) ∙ ap h.point (div-add-mod' e u)
 
   same_edge : (p i : ℕ) → p < g.points → i < g.point_degree → g.edge p i ≡ h.edge p i
@@ -134,16 +126,6 @@ module _ (g h : GeometryModel) (L : GeometryLaws g) (M : GeometryLaws h) (R : Ri
     lines_agree = A.lines_alike;
     point_degrees_agree = A.point_degrees_alike;
     line_degrees_agree = A.line_degrees_alike;
-    edges_agree = λ p i. at p i (ltb p g.points) (ltb i g.point_degree) refl refl
-        ∙ ap₂ (λ n s. cond (ltb p n) (cond (ltb i s) (Some (h.edge p i)) None) None) A.points_alike A.point_degrees_alike;
-    points_of_agree = λ e. of e (ltb e (edges g)) refl ∙ ap (λ n. cond {A = Option (ℕ × ℕ)} (ltb e n) (Some (h.point e, h.seat e)) None) edges_same;
+    edges_agree = λ p i. grind (arith, nat_tests, A.points_alike, A.point_degrees_alike, same_edge p i);
+    points_of_agree = λ e. grind (arith, nat_tests, edges_same, same_point e, same_seat e);
   }
-    where
-      at : (p i : ℕ) (s t : Bool) → ltb p g.points ≡ s → ltb i g.point_degree ≡ t → cond s (cond t (Some (g.edge p i)) None) None ≡ cond s (cond t (Some (h.edge p i)) None) None
-      at p i true true a b = ap Some (same_edge p i (ltb-true _ _ a) (ltb-true _ _ b))
-      at p i true false a b = refl
-      at p i false t a b = refl
-
-      of : (e : ℕ) (s : Bool) → ltb e (edges g) ≡ s → cond {A = Option (ℕ × ℕ)} s (Some (g.point e, g.seat e)) None ≡ cond {A = Option (ℕ × ℕ)} s (Some (h.point e, h.seat e)) None
-      of e true a = ap₂ (λ x y. Some (x, y)) (same_point e (ltb-true _ _ a)) (same_seat e (ltb-true _ _ a))
-      of e false a = refl

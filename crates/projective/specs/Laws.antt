@@ -3,11 +3,8 @@ use Rattle.std.specs.Prelude.{◌≡◌, ℕ, ◌+◌, ◌*◌, ◌<◌, refl}
 use Rattle.std.proofs.Common.{sym, ap, ap₂, ◌∙◌, subst, arith}
 use Rattle.field.specs.Model.{FieldModel}
 use Rattle.field.specs.Laws.{FieldLaws}
-use Rattle.geometry.specs.Model.{GeometryModel}
-use Rattle.geometry.specs.Incidence.{On}
-use Rattle.geometry.proofs.Derived.{on_in}
-use Rattle.geometry.proofs.Laid.{laid_lawful, laid_rising, on_inc, inc_on}
-use Rattle.geometry.proofs.Pinned.{pinned}
+use Rattle.geometry.proofs.Laid.{laid_lawful, laid_rising, by_rule}
+use Rattle.geometry.proofs.Only.{only}
 use Rattle.geometry.proofs.Sides.{Side, LayoutLaws}
 use Rattle.projective.specs.declared.triple.Triple.{Triple}
 use Rattle.projective.specs.Triples.{Codes, x_of, y_of, z_of, number_of, dot}
@@ -98,39 +95,26 @@ module _ (φ : FieldModel) (laws : FieldLaws φ) where
     point_degree_is = refl;
     line_degree_is = refl;
     incidence = λ p m hp hm.
-        let y = projective_layout φ in
-        let eq : Inc (number_of q p) (number_of q m) → dot φ m p ≡ 0 =
-        λ e. sym (ap₂ (dot φ) (triple_number q more m hm) (triple_number q more p hp)) ∙ e in (
-          λ o. eq (on_inc y Inc keeps (number_of q p) (number_of q m) o).2,
-          λ e. inc_on y Inc keeps (number_of q p) (number_of q m) (number_in q more p hp) (number_in q more m hm)
-              (ap₂ (dot φ) (triple_number q more m hm) (triple_number q more p hp) ∙ e),
-        );
+        simp (triple_number q more p hp, triple_number q more m hm)
+        at (by_rule (projective_layout φ) Inc keeps (number_of q p) (number_of q m) (number_in q more p hp) (number_in q more m hm));
     rising = laid_rising (projective_layout φ) Inc keeps;
     lawful = laid_lawful (projective_layout φ) Inc keeps;
   }
 
-  -- what is incident in one plane is incident in any other
-  carried : (g h : GeometryModel) → IsProjective φ g → IsProjective φ h → (p l : ℕ) → On g p l → On h p l
-  carried g h G H p l o =
-      let b = on_in g G.lawful p l o in
-      let hp : p < N = subst (λ n. p < n) G.points_are b.0 in
-      let hl : l < N = subst (λ n. l < n) G.lines_are b.1 in
-      let ep = (number_triple q more p hp).0 in
-      let el = (number_triple q more l hl).0 in
-      let o' : On g (number_of q (T p)) (number_of q (T l)) = subst (λ n. On g n (number_of q (T l))) (sym ep) (subst (On g p) (sym el) o) in
-      subst (On h p) el (subst (λ n. On h n (number_of q (T l))) ep
-      ((H.incidence (T p) (T l) (codes p hp) (codes l hl)).1 ((G.incidence (T p) (T l) (codes p hp) (codes l hl)).0 o')))
-
   pub only_projective : OnlyProjective φ (projective φ)
-  only_projective h H =
-      let G = is_projective in
-      pinned h (projective φ) H.lawful G.lawful H.rising G.rising
-      (record {
-        orders_alike = H.order_is;
-        points_alike = H.points_are;
-        lines_alike = H.lines_are;
-        point_degrees_alike = H.point_degree_is;
-        line_degrees_alike = H.line_degree_is;
-        on_alike = carried h (projective φ) H G;
-        alike_on = carried (projective φ) h G H;
-      })
+  only_projective h H = only (projective_layout φ) Inc keeps h (record {
+    lawful = H.lawful;
+    rising = H.rising;
+    order_is = H.order_is;
+    points_are = H.points_are;
+    lines_are = H.lines_are;
+    point_degree_is = H.point_degree_is;
+    line_degree_is = H.line_degree_is;
+    rule = λ p l hp hl. (
+      _,
+      _,
+      (number_triple q more p hp).0,
+      (number_triple q more l hl).0,
+      H.incidence (T p) (T l) (codes p hp) (codes l hl),
+    );
+  })

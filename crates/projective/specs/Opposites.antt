@@ -7,12 +7,11 @@ use Rattle.field.specs.Model.{FieldModel, over}
 use Rattle.field.specs.Laws.{FieldLaws}
 use Rattle.field.proofs.Ring.{zero_code, sum_cancel, prod_zero, zero_prod, zero_sum}
 use Rattle.field.proofs.Quotients.{shorten, times_quotient, over_zero, over_is}
-use Rattle.radix.proofs.Radix.{digits_rise}
+use Rattle.radix.proofs.Radix.{digits_rise, two_lt}
 use Rattle.projective.specs.declared.triple.Triple.{Triple}
 use Rattle.projective.specs.declared.triple.Triple.TheVariants.{Affine, Ideal, Last}
 use Rattle.projective.specs.Triples.{Codes, x_of, y_of, z_of, number_of, inner}
 use Rattle.projective.specs.Formulas.{opposite, by_third, by_second, by_last, seat_of}
-use Rattle.projective.specs.TriplesLemmas.{affine_lt}
 
 module _ (φ : FieldModel) (laws : FieldLaws φ) where
   open φ use {sum, neg, prod, inv, order as q}
@@ -110,13 +109,13 @@ module _ (φ : FieldModel) (laws : FieldLaws φ) where
   kind_rise a b c lt (low3 i h n) (low3 j h' n') = affine_rise i j _ _ lt (prod_code _ _)
   kind_rise a b c lt (low3 i h n) (low2 j h' z n') = absurd (n z)
   kind_rise a b c lt (low3 i h n) (low1 j h' z y) = absurd (n z)
-  kind_rise a b c lt (low3 i h n) (high3 j e n') = let k = affine_lt q more i _ h (prod_code (neg (sum a (prod b i))) (inv c)) in omega arith
+  kind_rise a b c lt (low3 i h n) (high3 j e n') = let k = two_lt q i _ h (prod_code (neg (sum a (prod b i))) (inv c)) in omega arith
   kind_rise a b c lt (low3 i h n) (high0 j e z) = absurd (n z)
   kind_rise a b c lt (low2 i h z n) (low3 j h' n') = absurd (n' z)
   kind_rise a b c lt (low2 i h z n) (low2 j h' z' n') = omega arith
   kind_rise a b c lt (low2 i h z n) (low1 j h' z' y) = absurd (n y)
   kind_rise a b c lt (low2 i h z n) (high3 j e n') = absurd (n' z)
-  kind_rise a b c lt (low2 i h z n) (high0 j e z') = let k = affine_lt q more _ i (prod_code (neg a) (inv b)) h in omega arith
+  kind_rise a b c lt (low2 i h z n) (high0 j e z') = let k = two_lt q _ i (prod_code (neg a) (inv b)) h in omega arith
   kind_rise a b c lt (low1 i h z y) (low3 j h' n') = absurd (n' z)
   kind_rise a b c lt (low1 i h z y) (low2 j h' z' n') = absurd (n' y)
   kind_rise a b c lt (low1 i h z y) (low1 j h' z' y') = omega arith

@@ -1,10 +1,10 @@
 -- Triples and their numbers.
 use Rattle.std.specs.Prelude.{◌≡◌, ℕ, ◌+◌, ◌-◌, ◌*◌, ◌/◌, ◌%◌, ◌<◌, ◌≤◌, Bool, true, false, cond, nat_lt, refl}
-use Rattle.std.proofs.Common.{sym, ap, ap₂, ◌∙◌, subst, arith, mod-lt}
+use Rattle.std.proofs.Common.{sym, ap, ap₂, ◌∙◌, arith, mod-lt}
 use Rattle.std.proofs.Math.Nat.{div-add-mod}
-use Rattle.std.proofs.Math.Arith.{digits_lt, digits_div, digits_mod}
+use Rattle.std.proofs.lemmas.Nat.{div_below}
 use Rattle.std.proofs.lemmas.Bool.{ltb-true, ltb-false, lt-ltb, le-ltb}
-use Rattle.radix.proofs.Radix.{flip, high_lt}
+use Rattle.radix.proofs.Radix.{high_is, last_is, two_lt}
 use Rattle.projective.specs.declared.triple.Triple.{Triple}
 use Rattle.projective.specs.declared.triple.Triple.TheVariants.{Affine, Ideal, Last}
 use Rattle.projective.specs.Triples.{Codes, number_of, x_of, y_of, z_of}
@@ -14,18 +14,14 @@ module _ (q : ℕ) (more : 1 < q) where
   pos : 0 < q
   pos = omega arith
 
-  pub affine_lt : (y z : ℕ) → y < q → z < q → q * y + z < q * q
-  affine_lt y z hy hz = subst (λ n. n < q * q) (sym (flip q y z)) (digits_lt hy hz)
-
   pub number_in : (t : Triple) → Codes q t → number_of q t < q * q + q + 1
-  number_in (Affine y z) h = let k = affine_lt y z h.0 h.1 in omega arith
+  number_in (Affine y z) h = let k = two_lt q y z h.0 h.1 in omega arith
   number_in (Ideal z) h = omega arith
   number_in Last h = omega arith
 
   pub triple_number : (t : Triple) → Codes q t → triple_of q (number_of q t) ≡ t
   triple_number (Affine y z) h =
-      rw (lt-ltb _ _ (affine_lt y z h.0 h.1))
-      (ap₂ Affine (ap (λ n. n / q) (flip q y z) ∙ digits_div y h.1) (ap (λ n. n % q) (flip q y z) ∙ digits_mod y h.1))
+      rw (lt-ltb _ _ (two_lt q y z h.0 h.1)) (ap₂ Affine (high_is q y z h.1) (last_is q y z h.1))
   triple_number (Ideal z) h =
       let over : q * q ≤ q * q + z = omega arith in
       let under : q * q + z < q * q + q = omega arith in
@@ -40,7 +36,7 @@ module _ (q : ℕ) (more : 1 < q) where
     where
       go : (a b : Bool) → nat_lt n (q * q) ≡ a → nat_lt n (q * q + q) ≡ b
           → (number_of q (cond a (Affine (n / q) (n % q)) (cond b (Ideal (n - q * q)) Last)) ≡ n) × Codes q (cond a (Affine (n / q) (n % q)) (cond b (Ideal (n - q * q)) Last))
-      go true b u v = (div-add-mod n q, (high_lt n q q pos (ltb-true n (q * q) u), mod-lt n pos))
+      go true b u v = (div-add-mod n q, (div_below n q q pos (ltb-true n (q * q) u), mod-lt n pos))
       go false true u v = let k = ltb-false n (q * q) u in let m = ltb-true n (q * q + q) v in (omega arith, omega arith)
       go false false u v = let k = ltb-false n (q * q + q) v in (omega arith, tt)
 

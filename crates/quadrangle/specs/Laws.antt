@@ -1,18 +1,15 @@
 -- The formulas give the quadrangle, and nothing else does.
-use Rattle.std.specs.Prelude.{◌≡◌, ℕ, ◌+◌, ◌*◌, ◌/◌, ◌<◌, ◌≢◌, refl}
-use Rattle.std.proofs.Common.{sym, ap, ap₂, ◌∙◌, subst, mod-lt, mul-pos}
+use Rattle.std.specs.Prelude.{◌≡◌, ℕ, ◌*◌, ◌/◌, ◌<◌, ◌≢◌, refl}
+use Rattle.std.proofs.Common.{◌∙◌, subst, mod-lt, mul-pos}
 use Rattle.std.proofs.Math.Decide.{ℕ_discrete}
 use Rattle.field.specs.Model.{FieldModel, minus}
 use Rattle.field.specs.Laws.{FieldLaws}
 use Rattle.field.proofs.Ring.{zero_code, sum_cancel, sum_left_comm}
 use Rattle.field.proofs.Differences.{plus_minus, minus_plus, minus_back, sum_cancel_right}
 use Rattle.field.proofs.Slopes.{slopes}
-use Rattle.geometry.specs.Model.{GeometryModel}
-use Rattle.geometry.specs.Incidence.{On}
 use Rattle.geometry.specs.Layouts.{Layout}
-use Rattle.geometry.proofs.Derived.{on_in}
-use Rattle.geometry.proofs.Laid.{laid_lawful, laid_rising, on_inc, inc_on}
-use Rattle.geometry.proofs.Pinned.{pinned}
+use Rattle.geometry.proofs.Laid.{laid_lawful, laid_rising, by_rule}
+use Rattle.geometry.proofs.Only.{only}
 use Rattle.geometry.proofs.Sides.{Side, LayoutLaws}
 use Rattle.radix.specs.Digits.{first, second, third, number}
 use Rattle.radix.proofs.Radix.{first_is, second_is, third_is, number_is, number_lt, number_rise, first_lt, same_number, read}
@@ -51,14 +48,8 @@ module _ (φ : FieldModel) (laws : FieldLaws φ) where
 
   pub incs : (x y z a b c : ℕ) → y < q → z < q → b < q → c < q → sum y b ≡ prod a x → sum z c ≡ prod x b → Inc φ (number q x y z) (number q a b c)
   incs x y z a b c hy hz hb hc e h = (
-    ap₂ sum (second_is q x y z hy hz) (second_is q a b c hb hc) ∙ e ∙ sym (ap₂ prod (first_is q a b c hb hc) (first_is q x y z hy hz)),
-    ap₂ sum (third_is q x y z hz) (third_is q a b c hc) ∙ h ∙ sym (ap₂ prod (first_is q x y z hy hz) (second_is q a b c hb hc)),
-  )
-
-  pub inc_out : (x y z a b c : ℕ) → y < q → z < q → b < q → c < q → Inc φ (number q x y z) (number q a b c) → (sum y b ≡ prod a x) × (sum z c ≡ prod x b)
-  inc_out x y z a b c hy hz hb hc i = (
-    sym (ap₂ sum (second_is q x y z hy hz) (second_is q a b c hb hc)) ∙ i.0 ∙ ap₂ prod (first_is q a b c hb hc) (first_is q x y z hy hz),
-    sym (ap₂ sum (third_is q x y z hz) (third_is q a b c hc)) ∙ i.1 ∙ ap₂ prod (first_is q x y z hy hz) (second_is q a b c hb hc),
+    cc (second_is q x y z hy hz, second_is q a b c hb hc, first_is q a b c hb hc, first_is q x y z hy hz),
+    cc (third_is q x y z hz, third_is q a b c hc, first_is q x y z hy hz, second_is q a b c hb hc),
   )
 
   -- each line through a point is found by its slope, and each point of a line by its place
@@ -79,10 +70,7 @@ module _ (φ : FieldModel) (laws : FieldLaws φ) where
     at_rise = λ p i j hp lt hj. number_rise q i _ _ j _ _ lt (sum_code _ _) (sum_code _ _);
     seat_in = λ p l hp hl inc. first_lt q l pos hl;
     at_seat = λ p l hp hl inc.
-        let b : minus φ (prod (X l) (X p)) (Y p) ≡ Y l = ap (λ n. minus φ n (Y p)) (sym inc.0) ∙ minus_plus φ laws (Y p) (Y l) (second_lt l) in
-        let c : minus φ (prod (X p) (minus φ (prod (X l) (X p)) (Y p))) (Z p) ≡ Z l =
-        ap (λ n. minus φ (prod (X p) n) (Z p)) b ∙ ap (λ n. minus φ n (Z p)) (sym inc.1) ∙ minus_plus φ laws (Z p) (Z l) (third_lt l) in
-        ap₂ (λ m n. number q (X l) m n) b c ∙ number_is q l;
+        cc (inc.0, inc.1, minus_plus φ laws (Y p) (Y l) (second_lt l), minus_plus φ laws (Z p) (Z l) (third_lt l), number_is q l);
   }
 
   pub by_lines : Side (q * q * q) (q * q * q) q (λ l p. Inc φ p l) plan.point_on plan.seat_on
@@ -92,30 +80,37 @@ module _ (φ : FieldModel) (laws : FieldLaws φ) where
     at_rise = λ l i j hl lt hj. number_rise q i _ _ j _ _ lt (sum_code _ _) (sum_code _ _);
     seat_in = λ l p hl hp inc. first_lt q p pos hp;
     at_seat = λ l p hl hp inc.
-        let b : minus φ (prod (X l) (X p)) (Y l) ≡ Y p = ap (λ n. minus φ n (Y l)) (sym inc.0 ∙ sum_comm (Y p) (Y l)) ∙ minus_plus φ laws (Y l) (Y p) (second_lt p) in
-        let c : minus φ (prod (X p) (Y l)) (Z l) ≡ Z p = ap (λ n. minus φ n (Z l)) (sym inc.1 ∙ sum_comm (Z p) (Z l)) ∙ minus_plus φ laws (Z l) (Z p) (third_lt p) in
-        ap₂ (λ m n. number q (X p) m n) b c ∙ number_is q p;
+        cc (
+          inc.0,
+          inc.1,
+          sum_comm (Y p) (Y l),
+          sum_comm (Z p) (Z l),
+          minus_plus φ laws (Y l) (Y p) (second_lt p),
+          minus_plus φ laws (Z l) (Z p) (third_lt p),
+          number_is q p,
+        );
   }
 
   -- v + b = m and v + b' = m' say together m + b' = m' + b
   mixed : (v b b' m m' : ℕ) → sum v b ≡ m → sum v b' ≡ m' → sum m b' ≡ sum m' b
   mixed v b b' m m' e e' =
       let swap : sum (sum v b) b' ≡ sum (sum v b') b = simp (laws.sum_comm, sum_left_comm φ laws) in
-      ap (λ n. sum n b') (sym e) ∙ swap ∙ ap (λ n. sum n b) e'
+      cc
 
   pub two_points : (p p' l l' : ℕ) → p < q * q * q → p' < q * q * q → l < q * q * q → l' < q * q * q → p ≢ p'
       → Inc φ p l → Inc φ p' l → Inc φ p l' → Inc φ p' l' → l ≡ l'
   two_points p p' l l' hp hp' hl hl' n a b c d =
       elim (ℕ_discrete (X p) (X p')) [
-        | yes e ↦ absurd (n (same_number q p p' e
-            (sum_cancel_right φ laws (Y l) (Y p) (Y p') (second_lt p) (second_lt p') (a.0 ∙ ap (prod (X l)) e ∙ sym b.0))
-            (sum_cancel_right φ laws (Z l) (Z p) (Z p') (third_lt p) (third_lt p') (a.1 ∙ ap (λ v. prod v (Y l)) e ∙ sym b.1))))
+        | yes e ↦
+            let y = sum_cancel_right φ laws (Y l) (Y p) (Y p') (second_lt p) (second_lt p') (cc (a.0, b.0)) in
+            let z = sum_cancel_right φ laws (Z l) (Z p) (Z p') (third_lt p) (third_lt p') (cc (a.1, b.1)) in
+            absurd (n (same_number q p p' e y z))
         | no m ↦
             let s : X l ≡ X l' = slopes φ laws (X l) (X l') (X p) (X p') (Y l') (Y l)
             (first_lt q l pos hl) (first_lt q l' pos hl') (first_lt q p pos hp) (first_lt q p' pos hp') m
             (mixed (Y p) (Y l) (Y l') _ _ a.0 c.0) (mixed (Y p') (Y l) (Y l') _ _ b.0 d.0) in
-            let t : Y l ≡ Y l' = sum_cancel φ laws (Y p) (Y l) (Y l') (second_lt l) (second_lt l') (a.0 ∙ ap (λ v. prod v (X p)) s ∙ sym c.0) in
-            same_number q l l' s t (sum_cancel φ laws (Z p) (Z l) (Z l') (third_lt l) (third_lt l') (a.1 ∙ ap (prod (X p)) t ∙ sym c.1))
+            let t : Y l ≡ Y l' = sum_cancel φ laws (Y p) (Y l) (Y l') (second_lt l) (second_lt l') (cc (a.0, c.0)) in
+            same_number q l l' s t (sum_cancel φ laws (Z p) (Z l) (Z l') (third_lt l) (third_lt l') (cc (a.1, c.1)))
       ]
 
   pub keeps : LayoutLaws plan (Inc φ)
@@ -137,42 +132,28 @@ module _ (φ : FieldModel) (laws : FieldLaws φ) where
     lines_are = refl;
     point_degree_is = refl;
     line_degree_is = refl;
-    incidence = λ x y z a b c hx hy hz ha hb hc. (
-      λ o. inc_out x y z a b c hy hz hb hc
-          (on_inc plan (Inc φ) keeps (number q x y z) (number q a b c) (subst (λ n. On (quadrangle φ) n (number q a b c)) (read q x y z) (subst (λ n. On (quadrangle φ) (q * q * x + q * y + z) n) (read q a b c) o))).2,
-      λ e. subst (λ n. On (quadrangle φ) (q * q * x + q * y + z) n) (sym (read q a b c)) (subst (λ n. On (quadrangle φ) n (number q a b c)) (sym (read q x y z))
-          (inc_on plan (Inc φ) keeps (number q x y z) (number q a b c) (number_lt q x y z hx hy hz) (number_lt q a b c ha hb hc) (incs x y z a b c hy hz hb hc e.0 e.1))),
-    );
+    incidence = λ x y z a b c hx hy hz ha hb hc.
+        rw (read q x y z, read q a b c)
+        (simp (first_is q x y z hy hz, second_is q x y z hy hz, third_is q x y z hz, first_is q a b c hb hc, second_is q a b c hb hc, third_is q a b c hc)
+        at (by_rule plan (Inc φ) keeps (number q x y z) (number q a b c) (number_lt q x y z hx hy hz) (number_lt q a b c ha hb hc)));
     rising = laid_rising plan (Inc φ) keeps;
     lawful = laid_lawful plan (Inc φ) keeps;
   }
 
-  -- what is incident in one quadrangle is incident in any other
-  carried : (g h : GeometryModel) → IsQuadrangle φ g → IsQuadrangle φ h → (p l : ℕ) → On g p l → On h p l
-  carried g h G H p l o =
-      let b = on_in g G.lawful p l o in
-      let hp : p < q * q * q = subst (λ n. p < n) G.points_are b.0 in
-      let hl : l < q * q * q = subst (λ n. l < n) G.lines_are b.1 in
-      let ep : q * q * X p + q * Y p + Z p ≡ p = read q (X p) (Y p) (Z p) ∙ number_is q p in
-      let el : q * q * X l + q * Y l + Z l ≡ l = read q (X l) (Y l) (Z l) ∙ number_is q l in
-      let x = first_lt q p pos hp in
-      let a = first_lt q l pos hl in
-      let o' : On g (q * q * X p + q * Y p + Z p) (q * q * X l + q * Y l + Z l) =
-      subst (λ n. On g n (q * q * X l + q * Y l + Z l)) (sym ep) (subst (On g p) (sym el) o) in
-      subst (On h p) el (subst (λ n. On h n (q * q * X l + q * Y l + Z l)) ep
-      ((H.incidence (X p) (Y p) (Z p) (X l) (Y l) (Z l) x (second_lt p) (third_lt p) a (second_lt l) (third_lt l)).1
-      ((G.incidence (X p) (Y p) (Z p) (X l) (Y l) (Z l) x (second_lt p) (third_lt p) a (second_lt l) (third_lt l)).0 o')))
-
   pub only_quadrangle : OnlyQuadrangle φ (quadrangle φ)
-  only_quadrangle h H =
-      let G = is_quadrangle in
-      pinned h (quadrangle φ) H.lawful G.lawful H.rising G.rising
-      (record {
-        orders_alike = H.order_is;
-        points_alike = H.points_are;
-        lines_alike = H.lines_are;
-        point_degrees_alike = H.point_degree_is;
-        line_degrees_alike = H.line_degree_is;
-        on_alike = carried h (quadrangle φ) H G;
-        alike_on = carried (quadrangle φ) h G H;
-      })
+  only_quadrangle h H = only plan (Inc φ) keeps h (record {
+    lawful = H.lawful;
+    rising = H.rising;
+    order_is = H.order_is;
+    points_are = H.points_are;
+    lines_are = H.lines_are;
+    point_degree_is = H.point_degree_is;
+    line_degree_is = H.line_degree_is;
+    rule = λ p l hp hl. (
+      _,
+      _,
+      read q (X p) (Y p) (Z p) ∙ number_is q p,
+      read q (X l) (Y l) (Z l) ∙ number_is q l,
+      H.incidence (X p) (Y p) (Z p) (X l) (Y l) (Z l) (first_lt q p pos hp) (second_lt p) (third_lt p) (first_lt q l pos hl) (second_lt l) (third_lt l),
+    );
+  })

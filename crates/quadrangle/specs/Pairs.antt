@@ -20,12 +20,12 @@ module _ (φ : FieldModel) (laws : FieldLaws φ) where
   exchange : (v b b' y e m m' n n' : ℕ) → sum v b ≡ m → sum y b' ≡ m' → sum v b' ≡ n → sum (sum y b) e ≡ n' → sum (sum m m') e ≡ sum n n'
   exchange v b b' y e m m' n n' hm hm' hn hn' =
       let swap : sum (sum (sum v b) (sum y b')) e ≡ sum (sum v b') (sum (sum y b) e) = simp (laws.sum_comm, laws.sum_assoc, sum_left_comm φ laws) in
-      ap (λ t. sum t e) (ap₂ sum (sym hm) (sym hm')) ∙ swap ∙ ap₂ sum hn hn'
+      cc
 
   exchange_back : (v b b' y e m m' n n' : ℕ) → n < q → sum v b ≡ m → sum y b' ≡ m' → sum (sum y b) e ≡ n' → sum (sum m m') e ≡ sum n n' → sum v b' ≡ n
   exchange_back v b b' y e m m' n n' h hm hm' hn' w =
       sum_cancel_right φ laws n' (sum v b') n (sum_code v b') h
-      (ap (sum (sum v b')) (sym hn') ∙ sym (exchange v b b' y e m m' (sum v b') (sum (sum y b) e) hm hm' refl refl) ∙ w)
+      (cc (exchange v b b' y e m m' (sum v b') (sum (sum y b) e) hm hm' refl refl))
 
   -- the line [a, b, c] and the point (x, y, z)
   module _ (a b c x y z : ℕ) (hx : x < q) (ha : a < q) where
@@ -116,7 +116,7 @@ module _ (φ : FieldModel) (laws : FieldLaws φ) where
     -- no gap in either equation: the point is on the line
     pub closed : e ≡ 0 → h ≡ 0 → (sum y b ≡ prod a x) × (sum z c ≡ prod x b)
     closed p r =
-        (sym (sum_zero _ (sum_code y b)) ∙ ap (sum (sum y b)) (sym p) ∙ e_is, sym (sum_zero _ (sum_code z c)) ∙ ap (sum (sum z c)) (sym r) ∙ h_is)
+        (cc (sum_zero _ (sum_code y b), e_is), cc (sum_zero _ (sum_code z c), h_is))
 
     pub opened : sum y b ≡ prod a x → e ≡ 0
     opened p = sum_cancel φ laws (sum y b) e 0 (sum_code _ _) pos (e_is ∙ sym p ∙ sym (sum_zero _ (sum_code y b)))

@@ -3,7 +3,7 @@ use Rattle.std.specs.Prelude.{◌≡◌, ℕ, ◌*◌, ◌<◌, Bool, true, fals
 use Rattle.std.proofs.Common.{sym, ap, ◌∙◌, subst, arith}
 use Rattle.std.proofs.Math.Decide.{ℕ_discrete}
 use Rattle.std.proofs.lemmas.Bool.{ltb-true, ltb-false}
-use Rattle.field.specs.Model.{FieldModel, minus, over}
+use Rattle.field.specs.Model.{FieldModel, minus}
 use Rattle.field.specs.Laws.{FieldLaws}
 use Rattle.field.proofs.Ring.{zero_code, zero_prod, minus_eq}
 use Rattle.field.proofs.Differences.{plus_minus, minus_back, same_minus}
@@ -15,7 +15,7 @@ use Rattle.geometry.proofs.Laid.{on_inc, inc_on}
 use Rattle.radix.specs.Digits.{first, second, third}
 use Rattle.radix.proofs.Radix.{first_lt}
 use Rattle.quadrangle.specs.Formulas.{quadrangle, quadrangle_layout, line_through, point_over}
-use Rattle.quadrangle.specs.Projected.{gap, joining_pair, projected, at_place, at_slope}
+use Rattle.quadrangle.specs.Projected.{gap, joining_pair, projected, at_place}
 use Rattle.quadrangle.specs.Laws.{Inc, keeps, by_points, by_lines, incs}
 use Rattle.quadrangle.specs.Pairs.{must, does, turns, apart_places, one_slope, closed, opened}
 
@@ -94,10 +94,8 @@ module _ (φ : FieldModel) (laws : FieldLaws φ) where
       let slope : X k ≡ X k' = one_slope φ laws (X l) (Y l) (Z l) (X p) (Y p) (Z p) hx ha (X r) (X k) (X k')
       (first_lt q r pos f.joined_in) (first_lt q k pos f.joining_in) (first_lt q k' pos f'.joining_in) f.gap_left f.turn
       (subst (λ v. sum (sum (prod (X l) v) (prod (X k') (X p))) (E l p) ≡ sum (prod (X k') v) (prod (X l) (X p))) (sym same) f'.turn) in (
-        sym ((by_lines φ laws).at_seat l r f.line_in f.joined_in f.on_line) ∙ ap ((quadrangle_layout φ).point_on l) same
-            ∙ (by_lines φ laws).at_seat l r' f.line_in f'.joined_in f'.on_line,
-        sym ((by_points φ laws).at_seat p k f.point_in f.joining_in f.through_point) ∙ ap ((quadrangle_layout φ).line_at p) slope
-            ∙ (by_points φ laws).at_seat p k' f.point_in f'.joining_in f'.through_point,
+        cc ((by_lines φ laws).at_seat l r f.line_in f.joined_in f.on_line, (by_lines φ laws).at_seat l r' f.line_in f'.joined_in f'.on_line),
+        cc ((by_points φ laws).at_seat p k f.point_in f.joining_in f.through_point, (by_points φ laws).at_seat p k' f.point_in f'.joining_in f'.through_point),
       )
 
   -- the pair worked out
@@ -137,19 +135,19 @@ module _ (φ : FieldModel) (laws : FieldLaws φ) where
     at_pair : (place : ℕ) → place < q → E l p ≢ 0 → H l p ≡ prod (E l p) place → Joined G l p (at_place φ (X l) (Y l) (Z l) (X p) (Y p) (Z p) (Some place))
     at_pair place hx' n at =
         elim (ℕ_discrete (minus φ place (X p)) 0) [
-          | yes o ↦ subst (λ t. Joined G l p (at_slope φ (X l) (Y l) (Z l) (X p) (Y p) (Z p) place t)) (sym (ap (over φ (E l p)) o ∙ over_zero φ laws (E l p)))
+          | yes o ↦ rw (o, over_zero φ laws (E l p))
               (λ r k j. let f = found l p r k j in
               let same : X r ≡ place = shorten φ laws (E l p) (X r) place (sum_code _ _) (first_lt q r pos f.joined_in) hx' n (sym f.place ∙ at) in
               apart_places φ laws (X l) (Y l) (Z l) (X p) (Y p) (Z p) hx ha (X r) (X k) f.turn n (same ∙ minus_eq φ laws place (X p) hx' hx o))
-          | no m ↦ subst (λ t. Joined G l p (at_slope φ (X l) (Y l) (Z l) (X p) (Y p) (Z p) place t)) (sym (over_is φ laws (E l p) (minus φ place (X p)) (sum_code _ _) m))
+          | no m ↦ rw (over_is φ laws (E l p) (minus φ place (X p)) (sum_code _ _) m)
               (pair place hx' (λ s. m (same_minus φ laws place (X p) s)) n at)
         ]
 
     joining_joined : Joined G l p (joining_pair φ (X l) (Y l) (Z l) (X p) (Y p) (Z p))
     joining_joined =
         elim (ℕ_discrete (E l p) 0) [
-          | yes o ↦ subst (λ t. Joined G l p (at_place φ (X l) (Y l) (Z l) (X p) (Y p) (Z p) t)) (sym (ap (over φ (H l p)) o ∙ over_zero φ laws (H l p))) (λ r k j. (found l p r k j).gap_left o)
-          | no n ↦ subst (λ t. Joined G l p (at_place φ (X l) (Y l) (Z l) (X p) (Y p) (Z p) t)) (sym (over_is φ laws (H l p) (E l p) (sum_code _ _) n))
+          | yes o ↦ rw (o, over_zero φ laws (H l p)) (λ r k j. (found l p r k j).gap_left o)
+          | no n ↦ rw (over_is φ laws (H l p) (E l p) (sum_code _ _) n)
               (at_pair (prod (H l p) (inv (E l p))) (prod_code _ _) n (sym (times_quotient φ laws (E l p) (H l p) (sum_code _ _) (sum_code _ _) n)))
         ]
 

@@ -1,14 +1,11 @@
 -- Numbers of two and three digits to the base q.
-use mathlib.Core.Path.{◌≡◌, sym, ap, ap₂, ◌∙◌}
-use Prim.Native.Nat.{ℕ, ◌+◌, ◌*◌, ◌/◌, ◌%◌, ◌<◌, ◌≤◌}
+use mathlib.Core.Path.{◌≡◌, ap, ◌∙◌}
+use Prim.Native.Nat.{ℕ, ◌+◌, ◌*◌, ◌/◌, ◌%◌, ◌<◌}
 use native.Mathlib.Omega.{arith}
-use native.Mathlib.Nat.{mul_comm, mul_assoc, mul-le-mul_left, add-mul, div-add-mod', div-lt_iff_lt-mul}
+use native.Mathlib.Nat.{mul_comm, div-add-mod'}
+use Rattle.std.proofs.lemmas.Nat.{div_below}
 use lib.Arith.{digits_lt, digits_div, digits_mod}
 use Rattle.radix.specs.Digits.{first, second, third, number}
-
--- what stands before the last digit of a number below m u is below m
-pub high_lt : (n m u : ℕ) → 0 < u → n < m * u → n / u < m
-high_lt n m u pos h = (div-lt_iff_lt-mul {k = u} {x = n} {y = m} pos).1 h
 
 -- numbers rise with their first digit
 pub digits_rise : (i j m r t : ℕ) → i < j → r < m → i * m + r < j * m + t
@@ -16,11 +13,16 @@ digits_rise i j m r t h hr =
     let a = digits_lt {q = i} {m = j} {r = r} {c = m} h hr in
     omega arith
 
-pub flip : (q h r : ℕ) → q * h + r ≡ h * q + r
-flip q h r = ap (λ x. x + r) (mul_comm q h)
+-- of two digits, written with the base first
+module _ (q : ℕ) where
+  pub high_is : (h r : ℕ) → r < q → (q * h + r) / q ≡ h
+  high_is h r k = rw (mul_comm q h) (digits_div h k)
 
-pub times_most : (a q : ℕ) → q ≤ 257 → a * q ≤ 257 * a
-times_most a q h = let k = mul-le-mul_left a h in let c = mul_comm a 257 in omega arith
+  pub last_is : (h r : ℕ) → r < q → (q * h + r) % q ≡ r
+  last_is h r k = rw (mul_comm q h) (digits_mod h k)
+
+  pub two_lt : (h r : ℕ) → h < q → r < q → q * h + r < q * q
+  two_lt h r k l = rw (mul_comm q h) (digits_lt k l)
 
 -- of three digits
 module _ (q : ℕ) where
@@ -43,12 +45,11 @@ module _ (q : ℕ) where
   number_rise x y z x' y' z' lt hy hz = digits_rise (x * q + y) (x' * q + y') q z z' (digits_rise x x' q y y' lt hy) hz
 
   pub first_lt : (n : ℕ) → 0 < q → n < q * q * q → first q n < q
-  first_lt n pos h = high_lt (n / q) q q pos (high_lt n (q * q) q pos h)
+  first_lt n pos h = div_below (n / q) q q pos (div_below n q (q * q) pos h)
 
   pub same_number : (m n : ℕ) → first q m ≡ first q n → second q m ≡ second q n → third q m ≡ third q n → m ≡ n
-  same_number m n a b c = sym (number_is m) ∙ ap₂ (λ x y. number q x y (third q m)) a b ∙ ap (number q (first q n) (second q n)) c ∙ number_is n
+  same_number m n a b c = cc (number_is m, number_is n)
 
   -- the number as it is written for reading
   pub read : (x y z : ℕ) → q * q * x + q * y + z ≡ number q x y z
-  read x y z =
-      ap (λ n. n + z) (ap₂ ◌+◌ (mul_assoc q q x ∙ mul_comm q (q * x) ∙ ap (λ n. n * q) (mul_comm q x)) (mul_comm q y) ∙ sym (add-mul (x * q) y q))
+  read x y z = omega arith

@@ -1,5 +1,5 @@
 -- Laws of sums over a range.
-use Rattle.std.proofs.Common.{◌≡◌, ℕ, zero, suc, ◌+◌, ◌*◌, ◌<◌, ◌≤◌, ◌≢◌, sym, refl, ◌∙◌, inl, inr, eq-or-lt_of_le, add-one, arith}
+use Rattle.std.proofs.Common.{◌≡◌, ℕ, zero, suc, ◌+◌, ◌*◌, ◌<◌, ◌≤◌, ◌≢◌, sym, refl, ◌∙◌, inl, inr, eq-or-lt_of_le, arith}
 use native.Mathlib.Decide.{dec_le}
 use Rattle.ranges.specs.Ranges.{sum, Bits}
 
@@ -103,15 +103,6 @@ sum_shorter m (suc n) f h = elim (eq-or-lt_of_le h) [
 abbrev pub sum2 : ℕ → ℕ → (ℕ → ℕ → ℕ) → ℕ
 sum2 n m f = sum n (λ i. sum m (λ j. f i j))
 
-pub sum2_lin : (n m a b c d e : ℕ) (f g h k r : ℕ → ℕ → ℕ) → ((i j : ℕ) → i < n → j < m → a * f i j + b * g i j ≤ c * h i j + d * k i j + e * r i j)
-    → a * sum2 n m f + b * sum2 n m g ≤ c * sum2 n m h + d * sum2 n m k + e * sum2 n m r
-sum2_lin n m a b c d e f g h k r w =
-    sum_lin n a b c d e (λ i. sum m (f i)) (λ i. sum m (g i)) (λ i. sum m (h i)) (λ i. sum m (k i)) (λ i. sum m (r i))
-    (λ i p. sum_lin m a b c d e (f i) (g i) (h i) (k i) (r i) (λ j q. w i j p q))
-
-pub sum2_le : (n m : ℕ) (f g : ℕ → ℕ → ℕ) → ((i j : ℕ) → i < n → j < m → f i j ≤ g i j) → sum2 n m f ≤ sum2 n m g
-sum2_le n m f g h = sum_le n (λ i. sum m (f i)) (λ i. sum m (g i)) (λ i p. sum_le m (f i) (g i) (λ j q. h i j p q))
-
 pub sum2_eq : (n m : ℕ) (f g : ℕ → ℕ → ℕ) → ((i j : ℕ) → i < n → j < m → f i j ≡ g i j) → sum2 n m f ≡ sum2 n m g
 sum2_eq n m f g h = sum_eq n (λ i. sum m (f i)) (λ i. sum m (g i)) (λ i p. sum_eq m (f i) (g i) (λ j q. h i j p q))
 
@@ -126,12 +117,3 @@ sum2_prod n m f g =
 pub sum3_out : (n m o : ℕ) (f : ℕ → ℕ → ℕ → ℕ) → sum n (λ i. sum2 m o (f i)) ≡ sum o (λ k. sum2 n m (λ i j. f i j k))
 sum3_out n m o f =
     sum_eq n (λ i. sum2 m o (f i)) (λ i. sum o (λ k. sum m (λ j. f i j k))) (λ i p. sum_swap m o (f i)) ∙ sum_swap n o (λ i k. sum m (λ j. f i j k))
-
-pub sum4_swap : (n m o q : ℕ) (f : ℕ → ℕ → ℕ → ℕ → ℕ) → sum2 n m (λ i j. sum2 o q (f i j)) ≡ sum2 o q (λ k l. sum2 n m (λ i j. f i j k l))
-sum4_swap n m o q f =
-    sum3_out n m o (λ i j k. sum q (f i j k))
-    ∙ sum_eq o (λ k. sum n (λ i. sum2 m q (λ j l. f i j k l))) (λ k. sum q (λ l. sum2 n m (λ i j. f i j k l))) (λ k p. sum3_out n m q (λ i j l. f i j k l))
-
--- a loop's step
-pub sum_more : (n : ℕ) (f : ℕ → ℕ) → sum (n + 1) f ≡ sum n f + f n
-sum_more n f = rw add-one refl

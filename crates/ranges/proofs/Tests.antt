@@ -1,6 +1,7 @@
 -- Tests over a range.
-use Rattle.std.proofs.Common.{◌≡◌, ℕ, zero, suc, ◌+◌, ◌<◌, ◌≤◌, Bool, true, false, cond, eqb, ltb, length, get_or, Some, None, Option, refl, inl, inr, eq-or-lt_of_le, add-one, arith}
-use Rattle.std.proofs.lemmas.Bool.{and_parts, and_from, eqb-true, ltb-true, eq-eqb, lt-ltb}
+use Rattle.std.proofs.Common.{◌≡◌, ℕ, zero, suc, ◌+◌, ◌<◌, ◌≤◌, Bool, true, false, length, get_or, Some, None, Option, refl, inl, inr, eq-or-lt_of_le, add-one, arith}
+use Rattle.std.proofs.lemmas.Bool.Decides.{nat_tests}
+use Rattle.std.proofs.lemmas.Bool.{and_parts, and_from}
 use Rattle.std.proofs.lemmas.List.FromFn.{length-map-range_with_len, get_or-map-range_with_len}
 use Rattle.ranges.specs.Ranges.{tabulate, every, or_else, when, first_below, apart, over}
 
@@ -26,11 +27,11 @@ every_from (suc n) f h = and_from (every n f) (f n) (every_from n f (λ i k. h i
 -- nothing is first where the test fails everywhere
 pub or_none : {X : Type 0} (a b : Option X) → or_else a b ≡ None → (a ≡ None) × (b ≡ None)
 or_none None b h = (refl, h)
-or_none (Some x) b h = absurd (let z : ◌≡◌ {A = ℕ} 0 1 = cc in omega arith)
+or_none (Some x) b h = cc
 
 pub when_none : {X : Type 0} (b : Bool) (x : X) → when b x ≡ None → b ≡ false
 when_none false x h = refl
-when_none true x h = absurd (let z : ◌≡◌ {A = ℕ} 0 1 = cc in omega arith)
+when_none true x h = cc
 
 pub first_none : (n : ℕ) (f : ℕ → Bool) → first_below n f ≡ None → (i : ℕ) → i < n → f i ≡ false
 first_none zero f h i k = absurd (omega arith)
@@ -57,35 +58,19 @@ pub first_more : (f : ℕ → Bool) (e : ℕ) → first_below e f ≡ None → f
 first_more f e h t = rw add-one (rw (h, t) refl)
 
 pub apart_le : (a b : ℕ) → apart a b ≤ 1
-apart_le a b = go (eqb a b)
-  where
-    go : (t : Bool) → cond {A = ℕ} t 0 1 ≤ 1
-    go true = omega arith
-    go false = omega arith
+apart_le a b = grind (arith, nat_tests)
 
 pub apart_zero : (a b : ℕ) → apart a b ≡ 0 → a ≡ b
-apart_zero a b h = go (eqb a b) refl
-  where
-    go : (t : Bool) → eqb a b ≡ t → a ≡ b
-    go true e = eqb-true a b e
-    go false e = let k : apart a b ≡ 1 = rw e refl in absurd (omega arith)
+apart_zero a b h = grind (arith, nat_tests)
 
 pub apart_same : (a b : ℕ) → a ≡ b → apart a b ≡ 0
-apart_same a b e = rw (eq-eqb a b e) refl
+apart_same a b e = grind (arith, nat_tests)
 
 pub over_le : (t n : ℕ) → over t n ≤ 1
-over_le t n = go (ltb t n)
-  where
-    go : (b : Bool) → cond {A = ℕ} b 1 0 ≤ 1
-    go true = omega arith
-    go false = omega arith
+over_le t n = grind (arith, nat_tests)
 
 pub over_one : (t n : ℕ) → t < n → over t n ≡ 1
-over_one t n h = rw (lt-ltb t n h) refl
+over_one t n h = grind (arith, nat_tests)
 
 pub over_more : (t n : ℕ) → over t n ≡ 1 → t < n
-over_more t n h = go (ltb t n) refl
-  where
-    go : (b : Bool) → ltb t n ≡ b → t < n
-    go true e = ltb-true t n e
-    go false e = let k : over t n ≡ 0 = rw e refl in absurd (omega arith)
+over_more t n h = grind (arith, nat_tests)

@@ -1,8 +1,6 @@
-use Rattle.std.proofs.Common.{ap, ◌∙◌}
-use Rattle.field.specs.Model.{as_code}
+use Rattle.std.proofs.Common.{rules}
 use Rattle.binary_field.specs.Tables.{neg_read}
 use Rattle.binary_field.proofs.BinaryFieldField.negative.Goals as goal
 
 pub returns : goal.returns
-returns c =
-    neg_read c.args.self.now c.args.a c.read_code.result (c.read_code.ensures ∙ ap (λ n. as_code n c.args.a) c.order.ensures)
+returns c = search (rules, neg_read)

@@ -5,4 +5,4 @@ use Rattle.field256.proofs.Field256Field.inverse.Goals as goal
 
 pub returns : goal.returns
 unfolding logs antilogs
-returns c = inverse_read c.args.a (search rules) (search rules)
+returns c = search (rules, inverse_read)

@@ -3,4 +3,4 @@ use Rattle.field256.specs.Powers.{neg_read}
 use Rattle.field256.proofs.Field256Field.negative.Goals as goal
 
 pub returns : goal.returns
-returns c = neg_read c.args.a (search rules)
+returns c = search (rules, neg_read)
