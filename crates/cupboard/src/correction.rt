@@ -7,26 +7,38 @@ use std::fmt;
 // A code word.
 const WORD: [u8; 15] = [13, 1, 4, 7, 2, 11, 0, 9, 5, 3, 8, 5, 0, 2, 6];
 
-// The code word, spoiled at no seat, at two and at three.
 const CASES: [Case; 3] = [
     Case {
         title: "A code word, as it is.",
-        came: WORD,
+        spoiled: &[],
     },
     Case {
         title: "Two symbols are spoiled, at seats 0 and 9.",
-        came: [6, 1, 4, 7, 2, 11, 0, 9, 5, 12, 8, 5, 0, 2, 6],
+        spoiled: &[(0, 6), (9, 12)],
     },
     Case {
         title: "Three symbols are spoiled, at seats 2, 5 and 11.",
-        came: [13, 1, 13, 7, 2, 8, 0, 9, 5, 3, 8, 11, 0, 2, 6],
+        spoiled: &[(2, 13), (5, 8), (11, 11)],
     },
 ];
 
 struct Case {
     title: &'static str,
-    // the word that came
-    came: [u8; 15],
+    // the seats of the code word that are spoiled, each with the symbol that came
+    spoiled: &'static [(usize, u8)],
+}
+
+impl Case {
+    // The word that came.
+    fn came(&self) -> [u8; 15] {
+        let mut word = WORD;
+        for &(seat, symbol) in self.spoiled {
+            if let Some(place) = word.get_mut(seat) {
+                *place = symbol;
+            }
+        }
+        word
+    }
 }
 
 pub fn run(rt: &impl Print) -> anyhow::Result<()> {
@@ -41,8 +53,9 @@ pub fn run(rt: &impl Print) -> anyhow::Result<()> {
 // Decodes the word that came, and shows what became of it.
 fn attempt<C: ComponentCode>(rt: &impl Print, code: &C, case: &Case) -> anyhow::Result<()> {
     println!(rt; "\n{}", case.title)?;
-    println!(rt; "  came  {}", Symbols(&case.came))?;
-    let mut word = case.came;
+    let came = case.came();
+    println!(rt; "  came  {}", Symbols(&came))?;
+    let mut word = came;
     match decode(code, &mut word) {
         Ok(Decoding::Settled) => println!(rt; "  decoded: a code word lies within the radius")?,
         Ok(Decoding::Refused) => println!(rt; "  refused: no code word lies within the radius")?,
@@ -51,7 +64,7 @@ fn attempt<C: ComponentCode>(rt: &impl Print, code: &C, case: &Case) -> anyhow::
     println!(rt; "  now   {}", Symbols(&word))?;
     if word == WORD {
         println!(rt; "  The word is as it was.")?;
-    } else if word == case.came {
+    } else if word == came {
         println!(rt; "  The word is left as it came.")?;
     } else {
         println!(rt; "  The word is neither as it was nor as it came.")?;
