@@ -22,10 +22,9 @@ fn main(rt: HostRuntime) -> io::Result<()> {
         if is_passed_over(&line) {
             continue;
         }
-        println!(rt; "{line}")?;
         match answer_to(rt.alloc(), &line) {
-            Ok(answer) => println!(rt; "< {answer}")?,
-            Err(LineError::Failure(failure)) => println!(rt; "< {failure}")?,
+            Ok(answer) => println!(rt; "{line}\n< {answer}")?,
+            Err(LineError::Failure(failure)) => println!(rt; "{line}\n< {failure}")?,
             Err(LineError::Memory(error)) => return Err(error.into()),
         }
     }
