@@ -69,6 +69,6 @@ module _ (φ : FieldModel) (laws : FieldLaws φ) where
     | yes s ↦
         ap₂ sum (range_ext n g f (λ i j. h i (omega arith) (omega arith)) ∙ sym (sum_zero (field_sum φ n f) (range_code n f)) ∙ ap (sum (field_sum φ n f)) (sym (ap f s ∙ z))) (ap g s)
     | no d ↦
-        ap₂ sum (range_more n k f g (omega arith) z hg (λ i j. h i (omega arith))) (h n (omega arith) d) 
+        ap₂ sum (range_more n k f g (omega arith) z hg (λ i j. h i (omega arith))) (h n (omega arith) d)
         ∙ sum_assoc (field_sum φ n f) (g k) (f n) ∙ ap (sum (field_sum φ n f)) (sum_comm (g k) (f n)) ∙ sym (sum_assoc (field_sum φ n f) (f n) (g k))
   ]
