@@ -1,6 +1,6 @@
 -- The product modulo a polynomial of degree m, by Horner's rule over the coefficients of the second factor.
 -- It is linear, commutative and associative for every modulus.
-use Rattle.std.proofs.Common.{◌≡◌, ℕ, zero, suc, ◌+◌, ◌*◌, ◌/◌, ◌%◌, ◌^◌, ◌<◌, ◌≤◌, ◌⊎◌, sym, refl, ap, ◌∙◌, subst, ap₂, inl, inr, lt_of_lt_of_le, one-mul, div-add-mod', zero-add, zero-mul, arith, pow_pos, pow_mono}
+use Rattle.std.proofs.Common.{◌≡◌, ℕ, zero, suc, ◌+◌, ◌*◌, ◌/◌, ◌%◌, ◌^◌, ◌<◌, ◌≤◌, sym, refl, ap, ◌∙◌, ap₂, inl, inr, lt_of_lt_of_le, one-mul, div-add-mod', zero-add, zero-mul, arith, pow_pos, pow_mono}
 use native.Mathlib.Nat.{le_dest}
 use lib.Bits.{bit_xor, xor_zero_r, xor_lt, xor_shifted, xor_shr, xor_mod, xor_block}
 use Rattle.std.proofs.lemmas.Nat.{shr_high}

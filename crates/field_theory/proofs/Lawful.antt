@@ -1,5 +1,5 @@
 -- What is defined for each listed order is a field.
-use Rattle.std.proofs.Common.{ℕ, Bool, true, false, ◌||◌, T, eqb, List, [], ◌∷◌, sym, refl, subst, lit<, lit≤, inl, inr}
+use Rattle.std.proofs.Common.{ℕ, T, eqb, List, [], ◌∷◌, sym, refl, subst, lit<, lit≤, inl, inr}
 use Rattle.std.specs.List.{AllByRecursion}
 use Rattle.std.proofs.lemmas.Bool.{eqb-true, or_cases}
 use Rattle.field.specs.Polynomials.{bit, scaled, poly_product, remainder}

@@ -11,7 +11,7 @@ use Rattle.geometry.proofs.Laid.{laid_lawful, laid_rising, on_inc, inc_on}
 use Rattle.geometry.proofs.Pinned.{pinned}
 use Rattle.geometry.proofs.Sides.{LayoutLaws}
 
--- the geometry h has the counts of a layout and keeps to its rule; each point and line may be written as another number that is equal
+-- a geometry h with the counts and the rule of a layout, and rising seats; the rule may be known at numbers m and n that are equal to p and l
 pub record Follows (y : Layout) (Inc : ℕ → ℕ → Type 0) (h : GeometryModel) : Type 0 where
   pub lawful : GeometryLaws h
   pub rising : Rising h

@@ -1,5 +1,5 @@
 -- The sums, negatives, products and inverses that the code works out are the defined ones.
-use Rattle.std.proofs.Common.{◌≡◌, ℕ, ◌+◌, ◌-◌, ◌*◌, ◌%◌, ◌<◌, ◌≤◌, true, ◌≢◌, T, get_or, Some, sym, ap, ◌∙◌, ap₂, mod-eq_of_lt, arith}
+use Rattle.std.proofs.Common.{◌≡◌, ℕ, ◌+◌, ◌-◌, ◌*◌, ◌%◌, ◌<◌, ◌≤◌, true, ◌≢◌, T, get_or, Some, mod-eq_of_lt, arith}
 use native.Mathlib.Nat.{mod-eq-sub-mod, mod_self, sub-zero}
 use Rattle.field.specs.Model.{as_code, inverse}
 use Rattle.field.specs.Laws.{FieldLaws}
