@@ -6,7 +6,7 @@ use any_field::AnyField;
 use bch::Bch;
 
 // A BCH code beside the field of its symbols, which is chosen at run time like any other.
-#[derive(Clone, Copy)]
+#[derive(Clone, Copy, PartialEq, Eq, Debug)]
 pub struct BchOverAny {
     pub(crate) code: Bch,
     pub(crate) field: AnyField,

@@ -1,9 +1,10 @@
 // A geometry of any kind over a field of any listed order, chosen at run time: an enum over the kinds, which is a geometry itself.
 #![tactic(auto)]
 
-ghost use Rattle.std.specs.Prelude.{◌≡◌, Ok, Err, IfOk, IfErr, OnOk};
+ghost use Rattle.std.specs.Prelude.{◌≡◌, IfOk};
 ghost use Rattle.field.specs.Defined.{defined_field};
 ghost use Rattle.geometry.specs.Limits.{standing as standing_of};
+ghost use Rattle.refusal.specs.Given.{GivenOrRefused};
 ghost use Rattle.any_field.specs.Orders.{order_of};
 ghost use Rattle.any_geometry.specs.Kinds.{Projects, geometry_of, kind_of, kind_over};
 ghost use Rattle.any_geometry.specs.Lawful.{geometry_lawful};
@@ -107,10 +108,8 @@ impl Geometry for AnyGeometry {
 // The geometry of a kind over the field of an order. Refused with number 1 if the order is not listed, then with number 2
 // if it is above 16 or there are more than 5,000 edges.
 pub fn geometry_over(kind: Kind, order: usize) -> Result<AnyGeometry, Refusal>
+    ensures answer { GivenOrRefused (standing_of (kind_over kind (defined_field order))) (λ g. geometry_of g ≡ kind_over kind (defined_field order)) result }
     ensures same { IfOk result (λ g. kind_of g ≡ kind) }
-    ensures meaning { IfOk result (λ g. geometry_of g ≡ kind_over kind (defined_field order)) }
-    ensures stands { OnOk result (standing_of (kind_over kind (defined_field order)) ≡ Ok tt) }
-    ensures err { IfErr result (λ e. standing_of (kind_over kind (defined_field order)) ≡ Err e) }
 {
     let field = AnyField::try_from(order)?;
     checked(AnyGeometry::over(kind, field))

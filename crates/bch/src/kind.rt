@@ -4,7 +4,7 @@ ghost use Rattle.std.specs.Prelude.{◌≡◌};
 use prime_field::PrimeField;
 
 // An extended binary BCH code: the field of its symbols, how many seats it has, and its radius.
-#[derive(Clone, Copy)]
+#[derive(Clone, Copy, PartialEq, Eq, Debug)]
 pub struct Bch {
     pub(crate) field: PrimeField,
     pub(crate) size: usize,

@@ -1,13 +1,15 @@
 // Extended binary BCH codes: symbols in the field of 2, locators in the field of 16, 1 to 16 seats, radius 1 or 2.
 #![tactic(auto)]
 
-ghost use Rattle.std.specs.Prelude.{◌≡◌, ◌<◌, ◌≤◌, ◌↔◌, true, length, IsOk, IfOk, IfErr, IfSome, IfNone, bit_xor};
+ghost use Rattle.std.specs.Prelude.{◌≡◌, ◌<◌, ◌≤◌, cond, length, IfOk, IfErr, IfSome, IfNone, bit_xor};
 ghost use Rattle.bch.specs.Bch.{bch, power_bit, within_limits};
 ghost use Rattle.bch.specs.Columns.{NoPair, NoSeat, column, flipped, syndrome};
+ghost use Rattle.component.specs.Checks.{standing};
+ghost use Rattle.refusal.specs.Given.{GivenOrRefused};
 ghost use Rattle.refusal.specs.declared.Refusal.TheVariants.{CodeLimits};
 ghost use Rattle.bch.specs.Words;
 
-use component::{ComponentCode, Decoding};
+use component::{ComponentCode, Decoding, checked};
 use prime_field::PrimeField;
 use refusal::Refusal;
 
@@ -47,16 +49,18 @@ impl Bch {
 
     // The same, refused with 3 outside the limits.
     pub fn new(size: usize, radius: usize) -> Result<Bch, Refusal>
-        ensures within { IsOk result ↔ (within_limits size radius ≡ true) }
-        ensures size { IfOk result (λ c. c.size ≡ size) }
+        ensures answer { GivenOrRefused (standing (bch size radius)) (λ c. c.size ≡ size) result }
         ensures radius { IfOk result (λ c. c.radius ≡ radius) }
         ensures refused { IfErr result (λ e. e ≡ CodeLimits) }
     {
-        if within_limits(size, radius) {
-            Ok(Bch::of(size, radius))
-        } else {
-            Err(Refusal::CodeLimits)
-        }
+        checked(Bch::of(size, radius))
+    }
+
+    // A number of the code: 0 where there is no code.
+    fn counted(&self, number: usize) -> usize
+        ensures { result ≡ cond (within_limits self.now.size self.now.radius) number 0 }
+    {
+        if self.fits() { number } else { 0 }
     }
 }
 
@@ -153,7 +157,7 @@ impl ComponentCode for Bch {
     }
 
     fn length(&self) -> usize {
-        if self.fits() { self.size } else { 0 }
+        self.counted(self.size)
     }
 
     fn checks(&self) -> usize {
@@ -161,7 +165,7 @@ impl ComponentCode for Bch {
     }
 
     fn radius(&self) -> usize {
-        if self.fits() { self.radius } else { 0 }
+        self.counted(self.radius)
     }
 
     fn fits(&self) -> bool {

@@ -3,6 +3,8 @@
 
 ghost use Rattle.field.specs.Defined.{among, defined_field};
 ghost use Rattle.field.specs.Made.{MadeOrRefused};
+ghost use Rattle.field.specs.Model.{as_code};
+ghost use Rattle.std.specs.Prelude.{◌≡◌};
 ghost use Rattle.binary_field.specs.Orders.{order_of, small_orders};
 ghost use Rattle.binary_field.specs.Tables;
 
@@ -33,6 +35,15 @@ impl TryFrom<usize> for BinaryField {
     }
 }
 
+impl BinaryField {
+    // The code that a byte stands for.
+    fn read(&self, a: u8) -> u8
+        ensures { result ≡ as_code (order_of self.now) a }
+    {
+        read_code(self.order(), a)
+    }
+}
+
 impl Field for BinaryField {
     ghost model = { λ f. defined_field (order_of f) };
 
@@ -47,19 +58,17 @@ impl Field for BinaryField {
     }
 
     fn sum(&self, a: u8, b: u8) -> u8 {
-        let q = self.order();
-        read_code(q, a) ^ read_code(q, b)
+        self.read(a) ^ self.read(b)
     }
 
     // In a binary field each element is its own negative.
     fn negative(&self, a: u8) -> u8 {
-        read_code(self.order(), a)
+        self.read(a)
     }
 
     fn product(&self, a: u8, b: u8) -> u8 {
-        let q = self.order();
-        let x = read_code(q, a) as usize;
-        let y = read_code(q, b) as usize;
+        let x = self.read(a) as usize;
+        let y = self.read(b) as usize;
         match self {
             BinaryField::Of4 => PRODUCTS4[x * 4 + y],
             BinaryField::Of8 => PRODUCTS8[x * 8 + y],
@@ -68,7 +77,7 @@ impl Field for BinaryField {
     }
 
     fn inverse(&self, a: u8) -> Option<u8> {
-        let x = read_code(self.order(), a) as usize;
+        let x = self.read(a) as usize;
         if x == 0 {
             return None;
         }

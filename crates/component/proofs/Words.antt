@@ -3,13 +3,12 @@ use Rattle.std.proofs.Common.{◌≡◌, ℕ, ◌<◌, Bool, true, false, eqb, l
 use Rattle.std.proofs.lemmas.Bool.{and_from, eq-eqb, eqb-true, leb-false, le-ltb, lt-leb, lt-ltb}
 use Rattle.std.proofs.lemmas.List.Sums.{fails_before_first, position_or_len_is}
 use Rattle.std.specs.Result.{result_and}
-use Rattle.field.specs.Defined.{listed}
 use Rattle.refusal.specs.declared.Refusal.{Refusal}
-use Rattle.refusal.specs.declared.Refusal.TheVariants.{FieldOrder, CodeLimits, BufferLength}
+use Rattle.refusal.specs.declared.Refusal.TheVariants.{BufferLength}
 use Rattle.ranges.specs.Ranges.{every}
 use Rattle.ranges.proofs.Tests.{every_from}
 use Rattle.component.specs.Model.{CodeModel, over_field}
-use Rattle.component.specs.Checks.{unless, first_no_code, no_stranger, word_standing, admitted}
+use Rattle.component.specs.Checks.{unless, first_no_code, no_stranger, word_standing, standing, admitted}
 
 pub unless_true : (b : Bool) (r : Refusal) → unless b r ≡ Ok tt → b ≡ true
 unless_true true r h = refl
@@ -45,8 +44,6 @@ stands_from q n xs size codes = rw (eq-eqb (length xs) n size, codes_none q xs (
 pub over_from : (c : CodeModel) (xs : List ℕ) → admitted c xs ≡ Ok tt → over_field c xs ≡ true
 over_from c xs h =
     let q = c.field.order in
-    let a = both_pass (unless (listed q) FieldOrder) (result_and (unless c.fit CodeLimits) (word_standing q c.size xs)) tt h in
-    let b = both_pass (unless c.fit CodeLimits) (word_standing q c.size xs) tt a.1 in
-    let w = word_stands q c.size xs b.1 in
+    let w = word_stands q c.size xs (both_pass (standing c) (word_standing q c.size xs) tt h).1 in
     and_from (eqb (length xs) c.size) (every c.size (λ i. ltb (get_or xs i 0) q)) (eq-eqb (length xs) c.size w.0)
     (every_from c.size (λ i. ltb (get_or xs i 0) q) (λ i l. lt-ltb (get_or xs i 0) q (w.1 i l)))

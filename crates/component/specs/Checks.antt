@@ -24,12 +24,13 @@ no_stranger None = Ok tt
 unfoldable pub word_standing : ℕ → ℕ → List ℕ → Result (Unit {0}) Refusal
 word_standing q n xs = result_and (unless (length xs == n) BufferLength) (no_stranger (first_no_code q xs))
 
+-- the checks of a code, numbers 1 and 3
+abbrev pub standing : CodeModel → Result (Unit {0}) Refusal
+standing c = result_and (unless (listed c.field.order) FieldOrder) (unless c.fit CodeLimits)
+
 -- the checks of a call of decoding, numbers 1, 3, 9 and 10
 abbrev pub admitted : CodeModel → List ℕ → Result (Unit {0}) Refusal
-admitted c xs =
-    result_and (unless (listed c.field.order) FieldOrder)
-    (result_and (unless c.fit CodeLimits)
-    (word_standing c.field.order c.size xs))
+admitted c xs = result_and (standing c) (word_standing c.field.order c.size xs)
 
 -- a buffer after a call: as it was if the call is refused
 abbrev pub left : {X : Type 0} → Result (Unit {0}) Refusal → X → X → X

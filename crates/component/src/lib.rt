@@ -3,9 +3,10 @@
 
 ghost use Rattle.std.specs.Prelude.{◌≡◌, ℕ, ◌<◌, true, length};
 ghost use Rattle.component.specs.Calls.{decode_answer, decode_left, how_decoded};
-ghost use Rattle.component.specs.Checks.{admitted, first_no_code, word_standing};
+ghost use Rattle.component.specs.Checks.{admitted, first_no_code, standing as standing_of, word_standing};
 ghost use Rattle.component.specs.Decoding.{DecodedNear, DecodedOnly, RefusedFar, decoded, settled};
 ghost use Rattle.component.specs.Model.{CodeLaws, CodeModel, over_field};
+ghost use Rattle.refusal.specs.Given.{GivenOrRefused};
 
 use field::{Field, is_listed};
 use refusal::Refusal;
@@ -62,8 +63,8 @@ pub fn first_no_code(order: usize, word: &[u8]) -> Option<usize>
     word.iter().position(|symbol| *symbol as usize >= order)
 }
 
-// The checks of a word of this length over a field of this order: refused with 9 if it has another length, and with 10 for
-// the first place whose symbol is no code.
+// Whether a word has this length and holds codes of a field of this order alone: refused with 9, then with 10 for the first
+// place that holds none.
 #[tactic(auto, unfolding(crate::specs::Checks::word_standing))]
 pub fn check_word(order: usize, length: usize, word: &[u8]) -> Result<(), Refusal>
     ensures { result ≡ word_standing order length word.now }
@@ -71,24 +72,40 @@ pub fn check_word(order: usize, length: usize, word: &[u8]) -> Result<(), Refusa
     if word.len() != length {
         return Err(Refusal::BufferLength);
     }
-    match first_no_code(order, word) {
-        Some(place) => Err(Refusal::NotACode { place }),
-        None => Ok(()),
+    if let Some(place) = first_no_code(order, word) {
+        return Err(Refusal::NotACode { place });
     }
+    Ok(())
+}
+
+// What calls refuse the code with, if anything: number 1 if the order of its field is not listed, then number 3 if its numbers
+// are not within the limits of its kind.
+pub fn standing<C: ComponentCode>(code: &C) -> Result<(), Refusal>
+    ensures { result ≡ standing_of (C.ComponentCode.model code.now) }
+{
+    if !is_listed(code.field().order()) {
+        return Err(Refusal::FieldOrder);
+    }
+    if !code.fits() {
+        return Err(Refusal::CodeLimits);
+    }
+    Ok(())
+}
+
+// Gives the code back, or what `standing` refuses it with. Every constructor that can refuse ends in this.
+pub fn checked<C: ComponentCode + Drop>(code: C) -> Result<C, Refusal>
+    ensures { GivenOrRefused (standing_of (C.ComponentCode.model code)) (λ c. c ≡ code) result }
+{
+    standing(&code)?;
+    Ok(code)
 }
 
 // The checks of a call of decoding.
 fn admit<C: ComponentCode>(code: &C, word: &[u8]) -> Result<(), Refusal>
     ensures { result ≡ admitted (C.ComponentCode.model code.now) word.now }
 {
-    let order = code.field().order();
-    if !is_listed(order) {
-        return Err(Refusal::FieldOrder);
-    }
-    if !code.fits() {
-        return Err(Refusal::CodeLimits);
-    }
-    check_word(order, code.length(), word)
+    standing(code)?;
+    check_word(code.field().order(), code.length(), word)
 }
 
 // Decodes a word: it becomes the code word that differs from it in at most the radius, if there is one, and stays otherwise.

@@ -1,8 +1,9 @@
 // The Euclidean plane over any field.
 #![tactic(auto)]
 
-ghost use Rattle.std.specs.Prelude.{◌≡◌, Ok, Err, IfOk, IfErr, OnOk};
+ghost use Rattle.std.specs.Prelude.{◌≡◌, IfOk};
 ghost use Rattle.geometry.specs.Limits.{standing as standing_of};
+ghost use Rattle.refusal.specs.Given.{GivenOrRefused};
 ghost use Rattle.euclidean.specs.Formulas.{euclidean as euclidean_plane};
 ghost use Rattle.euclidean.specs.Plane.{IsEuclidean, OnlyEuclidean};
 ghost use Rattle.euclidean.specs.Laws.{is_euclidean};
@@ -33,9 +34,7 @@ impl<F: Field> EuclideanPlane<F> {
 impl<F: Field + Drop> EuclideanPlane<F> {
     // The plane over a field. Refused with number 1 if the order of the field is not listed, then with number 2 if it is above 16 or there are more than 5,000 edges.
     pub fn new(field: F) -> Result<Self, Refusal>
-        ensures ok { IfOk result (λ p. p.field ≡ field) }
-        ensures stands { OnOk result (standing_of (euclidean_plane (F.Field.model field)) ≡ Ok tt) }
-        ensures err { IfErr result (λ e. standing_of (euclidean_plane (F.Field.model field)) ≡ Err e) }
+        ensures answer { GivenOrRefused (standing_of (euclidean_plane (F.Field.model field))) (λ p. p.field ≡ field) result }
         ensures meaning { IfOk result (λ p. IsEuclidean (F.Field.model field) (euclidean_plane (F.Field.model p.field))) }
     {
         checked(Self::over(field))

@@ -2,12 +2,13 @@
 // A geometry has points and lines, and an edge for each point with a line through it.
 #![tactic(auto)]
 
-ghost use Rattle.std.specs.Prelude.{◌≡◌, Ok, Err, IfOk, IfErr, OnOk};
+ghost use Rattle.std.specs.Prelude.{◌≡◌};
 ghost use Rattle.geometry.specs.Incidence.{OnePoint};
 ghost use Rattle.geometry.specs.Laws.{GeometryLaws};
 ghost use Rattle.geometry.specs.Limits.{fits as fits_limits, standing as standing_of};
 ghost use Rattle.geometry.specs.Model.{GeometryModel, edge_at, edges as edges_of, point_of};
 ghost use Rattle.geometry.specs.Projection.{Joined, OnePair};
+ghost use Rattle.refusal.specs.Given.{GivenOrRefused};
 
 use field::is_listed;
 use refusal::Refusal;
@@ -90,11 +91,9 @@ pub fn standing<G: Geometry>(geometry: &G) -> Result<(), Refusal>
     Ok(())
 }
 
-// The geometry, if calls take it. Every constructor that can refuse ends in this.
+// Gives the geometry back, or what `standing` refuses it with. Every constructor that can refuse ends in this.
 pub fn checked<G: Geometry + Drop>(geometry: G) -> Result<G, Refusal>
-    ensures ok { IfOk result (λ g. g ≡ geometry) }
-    ensures stands { OnOk result (standing_of (G.Geometry.model geometry) ≡ Ok tt) }
-    ensures err { IfErr result (λ e. standing_of (G.Geometry.model geometry) ≡ Err e) }
+    ensures { GivenOrRefused (standing_of (G.Geometry.model geometry)) (λ g. g ≡ geometry) result }
 {
     standing(&geometry)?;
     Ok(geometry)

@@ -3,6 +3,8 @@
 
 ghost use Rattle.field.specs.Defined.{among, defined_field, prime_orders};
 ghost use Rattle.field.specs.Made.{MadeOrRefused};
+ghost use Rattle.field.specs.Model.{as_code};
+ghost use Rattle.std.specs.Prelude.{◌≡◌};
 ghost use Rattle.field_theory.proofs.Lawful.{prime_lawful};
 
 use field::{Field, read_code};
@@ -26,6 +28,15 @@ impl TryFrom<usize> for PrimeField {
     }
 }
 
+impl PrimeField {
+    // The code that a byte stands for.
+    fn read(&self, a: u8) -> u8
+        ensures { result ≡ as_code self.now.order a }
+    {
+        read_code(self.order(), a)
+    }
+}
+
 impl Field for PrimeField {
     ghost model = { λ f. defined_field f.order };
 
@@ -37,28 +48,25 @@ impl Field for PrimeField {
 
     fn sum(&self, a: u8, b: u8) -> u8 {
         let q = self.order;
-        let s = read_code(q as usize, a) + read_code(q as usize, b);
+        let s = self.read(a) + self.read(b);
         if s < q { s } else { s - q }
     }
 
     fn negative(&self, a: u8) -> u8 {
-        let q = self.order;
-        let x = read_code(q as usize, a);
-        if x == 0 { 0 } else { q - x }
+        let x = self.read(a);
+        if x == 0 { 0 } else { self.order - x }
     }
 
     fn product(&self, a: u8, b: u8) -> u8 {
-        let q = self.order;
-        read_code(q as usize, a) * read_code(q as usize, b) % q
+        self.read(a) * self.read(b) % self.order
     }
 
     fn inverse(&self, a: u8) -> Option<u8> {
-        let q = self.order as usize;
-        let x = read_code(q, a);
+        let x = self.read(a);
         if x == 0 {
             None
         } else {
-            Some(INVERSES[q * 14 + x as usize])
+            Some(INVERSES[self.order() * 14 + x as usize])
         }
     }
 }

@@ -1,8 +1,9 @@
 // The projective plane over any field.
 #![tactic(auto)]
 
-ghost use Rattle.std.specs.Prelude.{◌≡◌, Ok, Err, IfOk, IfErr, OnOk};
+ghost use Rattle.std.specs.Prelude.{◌≡◌, IfOk};
 ghost use Rattle.geometry.specs.Limits.{standing as standing_of};
+ghost use Rattle.refusal.specs.Given.{GivenOrRefused};
 ghost use Rattle.projective.specs.Formulas.{projective as projective_plane};
 ghost use Rattle.projective.specs.Plane.{IsProjective, OnlyProjective};
 ghost use Rattle.projective.specs.Laws.{is_projective};
@@ -37,9 +38,7 @@ impl<F: Field> ProjectivePlane<F> {
 impl<F: Field + Drop> ProjectivePlane<F> {
     // The plane over a field. Refused with number 1 if the order of the field is not listed, then with number 2 if it is above 16 or there are more than 5,000 edges.
     pub fn new(field: F) -> Result<Self, Refusal>
-        ensures ok { IfOk result (λ p. p.field ≡ field) }
-        ensures stands { OnOk result (standing_of (projective_plane (F.Field.model field)) ≡ Ok tt) }
-        ensures err { IfErr result (λ e. standing_of (projective_plane (F.Field.model field)) ≡ Err e) }
+        ensures answer { GivenOrRefused (standing_of (projective_plane (F.Field.model field))) (λ p. p.field ≡ field) result }
         ensures meaning { IfOk result (λ p. IsProjective (F.Field.model field) (projective_plane (F.Field.model p.field))) }
     {
         checked(Self::over(field))

@@ -1,8 +1,9 @@
+// Homogeneous coordinates.
 ghost use Rattle.std.specs.Prelude.{◌≡◌};
 ghost use Rattle.projective.specs.Triples.{x_of, y_of, z_of};
 
 // The coordinates of a point or of a line.
-#[derive(Clone, Copy)]
+#[derive(Clone, Copy, PartialEq, Eq, Debug)]
 pub(crate) enum Triple {
     // (1, y, z)
     Affine(u8, u8),

@@ -47,10 +47,7 @@ impl<F: Field> ProjectivePlane<F> {
         let field = &self.field;
         let (a, b, c) = vertex.coordinates();
         if seat >= field.order() {
-            return match quotient(field, field.negative(b), c) {
-                Some(z) => Triple::Ideal(z),
-                None => Triple::Last,
-            };
+            return quotient(field, field.negative(b), c).map_or(Triple::Last, Triple::Ideal);
         }
         let i = seat as u8;
         if let Some(z) = quotient(field, field.negative(field.sum(a, field.product(b, i))), c) {

@@ -1,7 +1,7 @@
 // The coordinates of points and of lines: codes of the field.
 
 // The point (x, y, z).
-#[derive(Clone, Copy)]
+#[derive(Clone, Copy, PartialEq, Eq, Debug)]
 pub(crate) struct Point {
     pub(crate) x: u8,
     pub(crate) y: u8,
@@ -9,7 +9,7 @@ pub(crate) struct Point {
 }
 
 // The line [a, b, c].
-#[derive(Clone, Copy)]
+#[derive(Clone, Copy, PartialEq, Eq, Debug)]
 pub(crate) struct Line {
     pub(crate) a: u8,
     pub(crate) b: u8,

@@ -1,8 +1,9 @@
 // The quadrangle over any field: the affine part of a generalised quadrangle.
 #![tactic(auto)]
 
-ghost use Rattle.std.specs.Prelude.{◌≡◌, ◌^◌, ◌<◌, Ok, Err, IfOk, IfErr, OnOk};
+ghost use Rattle.std.specs.Prelude.{◌≡◌, ◌^◌, ◌<◌, IfOk};
 ghost use Rattle.geometry.specs.Limits.{standing as standing_of};
+ghost use Rattle.refusal.specs.Given.{GivenOrRefused};
 ghost use Rattle.geometry.specs.Projection.{OnePair};
 ghost use Rattle.quadrangle.specs.Affine.{IsQuadrangle, OnlyQuadrangle};
 ghost use Rattle.quadrangle.specs.Formulas.{line_through, point_over, quadrangle as affine_quadrangle};
@@ -98,9 +99,7 @@ impl<F: Field> AffineQuadrangle<F> {
 impl<F: Field + Drop> AffineQuadrangle<F> {
     // The quadrangle over a field. Refused with number 1 if the order of the field is not listed, then with number 2 if it is above 16 or there are more than 5,000 edges.
     pub fn new(field: F) -> Result<Self, Refusal>
-        ensures ok { IfOk result (λ p. p.field ≡ field) }
-        ensures stands { OnOk result (standing_of (affine_quadrangle (F.Field.model field)) ≡ Ok tt) }
-        ensures err { IfErr result (λ e. standing_of (affine_quadrangle (F.Field.model field)) ≡ Err e) }
+        ensures answer { GivenOrRefused (standing_of (affine_quadrangle (F.Field.model field))) (λ p. p.field ≡ field) result }
         ensures meaning { IfOk result (λ p. IsQuadrangle (F.Field.model field) (affine_quadrangle (F.Field.model p.field))) }
     {
         checked(Self::over(field))

@@ -2,7 +2,7 @@
 ghost use Rattle.std.specs.Prelude.{◌≤◌};
 
 // The base of the digits of a number: the order of a field, at most 256, so that a digit is a byte.
-#[derive(Clone, Copy)]
+#[derive(Clone, Copy, PartialEq, Eq, Debug)]
 pub struct Base {
     pub(crate) q: usize,
     ghost small: { q ≤ 256 },

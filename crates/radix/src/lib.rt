@@ -18,7 +18,7 @@ impl Base {
         Base { q }
     }
 
-    // The order of a field.
+    // The base that is the order of a field.
     pub fn of<F: Field>(field: &F) -> Base
         ensures { result.q ≡ (F.Field.model field.now).order }
     {

@@ -12,7 +12,7 @@ use field::{Field, difference};
 use std::array;
 
 // A wrong symbol: its seat, and by how much it is more than the right one.
-#[derive(Clone, Copy, Default)]
+#[derive(Clone, Copy, PartialEq, Eq, Default, Debug)]
 pub(crate) struct SymbolError {
     pub(crate) seat: u8,
     pub(crate) value: u8,

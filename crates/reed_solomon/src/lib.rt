@@ -1,13 +1,14 @@
 // Extended Reed-Solomon codes over any field.
 #![tactic(auto)]
 
-ghost use Rattle.std.specs.Prelude.{◌≡◌, cond, Some, None, IfOk, IfErr, OnOk};
-ghost use Rattle.reed_solomon.specs.Calls.{new_refusal};
+ghost use Rattle.std.specs.Prelude.{◌≡◌, cond, IfOk};
+ghost use Rattle.component.specs.Checks.{standing};
+ghost use Rattle.refusal.specs.Given.{GivenOrRefused};
 ghost use Rattle.reed_solomon.specs.Model.{reed_solomon, within_limits};
 ghost use Rattle.reed_solomon.specs.Meaning;
 
-use component::{ComponentCode, Decoding};
-use field::{Field, is_listed};
+use component::{ComponentCode, Decoding, checked};
+use field::Field;
 use refusal::Refusal;
 
 mod checks;
@@ -61,20 +62,11 @@ impl<F: Field> ReedSolomon<F> {
 impl<F: Field + Drop> ReedSolomon<F> {
     // A code within the limits over a field of a listed order. Refused with 1 or 3.
     pub fn new(field: F, size: usize, checks: usize) -> Result<ReedSolomon<F>, Refusal>
-        ensures ok { OnOk result (new_refusal (F.Field.model field).order size checks ≡ None) }
-        ensures err { IfErr result (λ e. new_refusal (F.Field.model field).order size checks ≡ Some e) }
-        ensures field { IfOk result (λ c. c.field ≡ field) }
+        ensures answer { GivenOrRefused (standing (reed_solomon (F.Field.model field) size checks)) (λ c. c.field ≡ field) result }
         ensures size { IfOk result (λ c. c.size ≡ size) }
         ensures checks { IfOk result (λ c. c.checks ≡ checks) }
     {
-        let order = field.order();
-        if !is_listed(order) {
-            return Err(Refusal::FieldOrder);
-        }
-        if !within_limits(order, size, checks) {
-            return Err(Refusal::CodeLimits);
-        }
-        Ok(ReedSolomon::over(field, size, checks))
+        checked(ReedSolomon::over(field, size, checks))
     }
 }
 

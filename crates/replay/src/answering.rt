@@ -1,11 +1,10 @@
 // What a line is answered, and how the answer is written.
-use crate::bytes;
+use crate::bytes::{self, Digits};
 use crate::line_error::LineError;
 use crate::reading::{call, checks_call, decode_call};
 use crate::words::Words;
 use any_code::{AnyCode, Component};
-use component::{ComponentCode, Decoding};
-use refusal::Refusal;
+use component::{ComponentCode, Decoding, checked};
 use script::{Failure, Value, decode};
 use std::alloc::Global;
 use std::fmt;
@@ -42,10 +41,7 @@ fn decoded(heap: Global, words: &mut Words) -> Result<Answer, LineError> {
 
 fn checks(words: &mut Words) -> Result<Answer, Failure> {
     let code = AnyCode::try_from(checks_call(words).ok_or(Failure::Unreadable)?)?;
-    if !code.fits() {
-        return Err(Refusal::CodeLimits.into());
-    }
-    Ok(Answer::Checks(code))
+    Ok(Answer::Checks(checked(code)?))
 }
 
 impl fmt::Display for Answer {
@@ -53,10 +49,7 @@ impl fmt::Display for Answer {
         match self {
             Answer::Found(Some(value)) => write!(f, "{value}"),
             Answer::Found(None) => f.write_str("absent"),
-            Answer::Decoded(Some(word)) => {
-                f.write_str("ok ")?;
-                bytes::write(f, word)
-            }
+            Answer::Decoded(Some(word)) => write!(f, "ok {}", Digits(word)),
             Answer::Decoded(None) => f.write_str("refused"),
             Answer::Checks(code) => write_checks(f, code),
         }

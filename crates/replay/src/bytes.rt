@@ -1,5 +1,5 @@
 // Byte strings, in lower-case hexadecimal digits, two for each byte; - is the empty one.
-ghost use Rattle.std.specs.Prelude.{◌≡◌, ◌↔◌, EachIndex, IfOk, IsTrue, OnOk, slice_index};
+ghost use Rattle.std.specs.Prelude.{◌≡◌, ◌<◌, EachIndex, IfOk, IsTrue, OnOk, length, slice_index};
 ghost use Rattle.replay.specs.Bytes.{NoCapital, written};
 
 use crate::line_error::LineError;
@@ -14,6 +14,9 @@ pub fn read(heap: Global, text: &str) -> Result<Vec<u8>, LineError>
     if text == "-" {
         return Ok(Vec::new(heap));
     }
+    if text.is_empty() || !is_digits(text) {
+        return Err(Failure::Unreadable.into());
+    }
     let mut bytes = vec![in heap; 0; text.len() / 2]?;
     read_digits(text, &mut bytes)?;
     Ok(bytes)
@@ -21,29 +24,34 @@ pub fn read(heap: Global, text: &str) -> Result<Vec<u8>, LineError>
 
 // Reads one byte or more, two digits for each.
 fn read_digits(text: &str, bytes: &mut [u8]) -> Result<(), Failure>
+    requires some { 0 < length text.now }
+    requires digits { EachIndex text.now (λ k. NoCapital (slice_index text.now k)) }
     ensures { OnOk result (text.now ≡ written bytes.new) }
 {
-    if text.is_empty() || !is_lower_case(text) {
-        return Err(Failure::Unreadable);
-    }
     hex::decode_to_slice(text, bytes).map_err(|_| Failure::Unreadable)
 }
 
-fn is_lower_case(text: &str) -> bool
-    ensures { IsTrue result ↔ EachIndex text.now (λ k. NoCapital (slice_index text.now k)) }
+// Whether each character is a digit of the format.
+fn is_digits(text: &str) -> bool
+    ensures { IsTrue result → EachIndex text.now (λ k. NoCapital (slice_index text.now k)) }
 {
     text.as_bytes()
         .iter()
-        .all(|digit| !digit.is_ascii_uppercase())
+        .all(|digit| matches!(*digit, b'0'..=b'9' | b'a'..=b'f'))
 }
 
-// Writes a byte string.
-pub fn write<W: fmt::Write>(f: &mut fmt::Formatter<W>, bytes: &[u8]) -> fmt::Result {
-    if bytes.is_empty() {
-        return f.write_str("-");
+// A byte string, as it is written.
+#[derive(Clone, Copy)]
+pub struct Digits<'a>(pub &'a [u8]);
+
+impl<'a> fmt::Display for Digits<'a> {
+    fn fmt<W: fmt::Write>(&self, f: &mut fmt::Formatter<W>) -> fmt::Result {
+        if self.0.is_empty() {
+            return f.write_str("-");
+        }
+        for byte in self.0 {
+            write!(f, "{byte:02x}")?;
+        }
+        Ok(())
     }
-    for byte in bytes {
-        write!(f, "{byte:02x}")?;
-    }
-    Ok(())
 }

@@ -10,20 +10,23 @@ pub fn call(name: &str, words: &mut Words) -> Option<Call> {
         "field" => field_call(words)?,
         _ => geometry_call(name, words)?,
     };
-    words.at_end().then_some(call)
+    words.end()?;
+    Some(call)
 }
 
 // The code and the word of a call of decoding, which is still in its digits.
 pub fn decode_call<'a>(words: &mut Words<'a>) -> Option<(Component, &'a str)> {
     let component = component(words)?;
     let word = words.word()?;
-    words.at_end().then_some((component, word))
+    words.end()?;
+    Some((component, word))
 }
 
 // The code whose checks are asked for.
 pub fn checks_call(words: &mut Words) -> Option<Component> {
     let component = component(words)?;
-    words.at_end().then_some(component)
+    words.end()?;
+    Some(component)
 }
 
 fn component(words: &mut Words) -> Option<Component> {

@@ -18,8 +18,11 @@ impl<'a> Words<'a> {
         self.word()?.parse().ok()
     }
 
-    // Whether there is no further word.
-    pub fn at_end(&mut self) -> bool {
-        self.word().is_none()
+    // Absent if there is a further word.
+    pub fn end(&mut self) -> Option<()> {
+        match self.word() {
+            Some(_) => None,
+            None => Some(()),
+        }
     }
 }
