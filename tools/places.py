@@ -1,5 +1,5 @@
 #!/usr/bin/env python3
-"""Lists the places in crates/*/src that an older form of Rattle may have left, by the points of docs/DESIGN-PASS.md.
+"""Lists places in crates/*/src that an older form of Rattle may have left, by the points of docs/DESIGN-PASS.md.
 
     python3 tools/places.py [FOLDER]
 
@@ -80,6 +80,8 @@ for path in files:
             show(4, "type that derives no equality", at, m.group(4))
     for m in re.finditer(r"let (Ok|Err)\([^=]*= |\b(Ok|Err)\(\w+\) => |\bif let (Ok|Err)", text):
         show(1, "Result taken apart by hand", where(path, text, m.start()), text[m.start() : m.start() + 60])
+    for m in re.finditer(r"\bNone => |\belse \{\s*None\s*\}|\bSome\(\w+\) => [^\n]*\n\s*None => ", text):
+        show(1, "Option taken apart by hand", where(path, text, m.start()), text[max(0, m.start() - 40) : m.start() + 20])
     for m in re.finditer(r"Result<[^<>]*(?:<[^<>]*>)?[^<>]*,\s*(?:u8|u16|u32|u64|usize)>", text):
         show(1, "number for an error", where(path, text, m.start()), m.group())
     for m in re.finditer(r"\b(?:\w+\.)?(?:radius|kind|which|mode|tag)\b [!=]= \d+", text):

@@ -20,9 +20,6 @@ impl<'a> Words<'a> {
 
     // Absent if there is a further word.
     pub fn end(&mut self) -> Option<()> {
-        match self.word() {
-            Some(_) => None,
-            None => Some(()),
-        }
+        self.word().is_none().then_some(())
     }
 }
