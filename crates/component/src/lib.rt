@@ -92,7 +92,7 @@ pub fn standing<C: ComponentCode>(code: &C) -> Result<(), Refusal>
     Ok(())
 }
 
-// Gives the code back, or what `standing` refuses it with. Every constructor that can refuse ends in this.
+// Gives the code back, or what `standing` refuses it with. The constructors that take only codes within the limits end in this.
 pub fn checked<C: ComponentCode + Drop>(code: C) -> Result<C, Refusal>
     ensures { GivenOrRefused (standing_of (C.ComponentCode.model code)) (λ c. c ≡ code) result }
 {
