@@ -29,37 +29,54 @@ def show(point, kind, place, what):
     print(f"{point}  {kind:<34} {place:<38} {' '.join(what.split())[:110]}")
 
 
-def functions(text):
-    """Name, place, parameters, clauses and body of each function."""
-    for m in re.finditer(r"\bfn (\w+)\s*(?:<[^>{]*>)?\(", text):
-        depth, i = 1, m.end()
-        while depth and i < len(text):
-            depth += {"(": 1, ")": -1}.get(text[i], 0)
-            i += 1
-        params = text[m.end() : i - 1]
-        j = i
-        clauses = []
-        result = re.match(r"\s*->\s*([^\n{;]*)", text[i:])
-        while True:
-            c = re.compile(r"\b(requires|ensures)\b([ \w]*)\{").search(text, j)
-            stop = re.compile(r"[{;]").search(text, j)
-            if not c or not stop or c.start() > stop.start():
-                break
-            depth, k = 1, c.end()
-            while depth and k < len(text):
-                depth += {"{": 1, "}": -1}.get(text[k], 0)
-                k += 1
-            clauses.append((c.group(1), text[c.end() : k - 1]))
-            j = k
-        if not stop or text[stop.start()] == ";":
-            yield m.group(1), m.start(), params, result and result.group(1), clauses, None
-            continue
-        depth, k = 1, stop.end()
-        while depth and k < len(text):
-            depth += {"{": 1, "}": -1}.get(text[k], 0)
-            k += 1
-        yield m.group(1), m.start(), params, result and result.group(1), clauses, text[stop.end() : k - 1]
+def closed(text, at, opening, closing):
+    """The place after the bracket that closes the one that stands before this place."""
+    depth = 1
+    while depth and at < len(text):
+        depth += {opening: 1, closing: -1}.get(text[at], 0)
+        at += 1
+    return at
 
+
+def functions(text):
+    """Name, place, parameters, result, clauses and body of each function."""
+    for m in re.finditer(r"\bfn (\w+)\s*(?:<[^>{]*>)?\(", text):
+        at = closed(text, m.end(), "(", ")")
+        params = text[m.end() : at - 1]
+        result = re.match(r"\s*->\s*([^\n{;]*)", text[at:])
+        clauses = []
+        while True:
+            clause = re.compile(r"\b(requires|ensures)\b([ \w]*)\{").search(text, at)
+            stop = re.compile(r"[{;]").search(text, at)
+            if not clause or not stop or clause.start() > stop.start():
+                break
+            at = closed(text, clause.end(), "{", "}")
+            clauses.append((clause.group(1), text[clause.end() : at - 1]))
+        body = None
+        if stop and text[stop.start()] == "{":
+            body = text[stop.end() : closed(text, stop.end(), "{", "}") - 1]
+        yield m.group(1), m.start(), params, result and result.group(1), clauses, body
+
+
+# Point, kind of candidate, the text that shows it, and how much of the text around it to print.
+PATTERNS = [
+    (1, "Result taken apart by hand", r"let (Ok|Err)\([^=]*= |\b(Ok|Err)\(\w+\) => |\bif let (Ok|Err)", 0, 40),
+    (1, "Option taken apart by hand", r"\bNone => |\belse \{\s*None\s*\}|\bSome\(\w+\) => [^\n]*\n\s*None => ", 40, 0),
+    (1, "number for an error", r"Result<[^<>]*(?:<[^<>]*>)?[^<>]*,\s*(?:u8|u16|u32|u64|usize)>", 0, 0),
+    (1, "number for a kind", r"\b(?:\w+\.)?(?:radius|kind|which|mode|tag)\b [!=]= \d+", 0, 0),
+    (3, "loop over numbers", r"\bfor [^{\n]* in [^{\n]*\.\.[^{\n]*\{|\bwhile [^{\n]*\{|\bloop \{", 0, 0),
+    (
+        4,
+        "impl of such a trait (for sight)",
+        r"\bimpl\b[^{\n]*\b(PartialEq|Eq|PartialOrd|Ord|Clone|Copy|Debug|From|TryFrom|FromStr|Display|Error)\b[^{\n]* for [^{\n]*",
+        0,
+        0,
+    ),
+    (6, "computed index into a flat table", r"\[[^\[\];=]*\* ?\d+ ?\+[^\[\];]*\]", 0, 0),
+    (6, "fixed array as field or parameter", r"(\w+): (&mut |&)?\[(u8|\[u8; \d+\]); \d+\]", 0, 0),
+    (6, "length beside a buffer", r"\bcount: usize|\blen: usize", 0, 0),
+    (7, "function pointer, dyn or impl Fn", r"\bfn\(|\bdyn \w+|\bimpl Fn", 0, 30),
+]
 
 shapes = collections.defaultdict(list)
 structs = collections.defaultdict(list)
@@ -78,31 +95,14 @@ for path in files:
             structs[tuple(fields)].append((at, m.group(4)))
         if not re.search(r"PartialEq", m.group(2) or ""):
             show(4, "type that derives no equality", at, m.group(4))
-    for m in re.finditer(r"let (Ok|Err)\([^=]*= |\b(Ok|Err)\(\w+\) => |\bif let (Ok|Err)", text):
-        show(1, "Result taken apart by hand", where(path, text, m.start()), text[m.start() : m.start() + 60])
-    for m in re.finditer(r"\bNone => |\belse \{\s*None\s*\}|\bSome\(\w+\) => [^\n]*\n\s*None => ", text):
-        show(1, "Option taken apart by hand", where(path, text, m.start()), text[max(0, m.start() - 40) : m.start() + 20])
-    for m in re.finditer(r"Result<[^<>]*(?:<[^<>]*>)?[^<>]*,\s*(?:u8|u16|u32|u64|usize)>", text):
-        show(1, "number for an error", where(path, text, m.start()), m.group())
-    for m in re.finditer(r"\b(?:\w+\.)?(?:radius|kind|which|mode|tag)\b [!=]= \d+", text):
-        show(1, "number for a kind", where(path, text, m.start()), m.group())
-    for m in re.finditer(r"\bfor [^{\n]* in [^{\n]*\.\.[^{\n]*\{|\bwhile [^{\n]*\{|\bloop \{", text):
-        show(3, "loop over numbers", where(path, text, m.start()), m.group())
+    for point, kind, pattern, before, after in PATTERNS:
+        for m in re.finditer(pattern, text):
+            show(point, kind, where(path, text, m.start()), text[max(0, m.start() - before) : m.end() + after])
     for m in re.finditer(r"\bfor [^{\n]* in [^{\n]*\{", text):
         if ".." not in m.group():
             block = text[m.end() : m.end() + 160]
             if re.search(r"return (Some|true|false|Err)", block):
                 show(3, "search by a loop over elements", where(path, text, m.start()), m.group())
-    for m in re.finditer(r"\bimpl\b[^{\n]*\b(PartialEq|Eq|PartialOrd|Ord|Clone|Copy|Debug|From|TryFrom|FromStr|Display|Error)\b[^{\n]* for [^{\n]*", text):
-        show(4, "impl of such a trait (for sight)", where(path, text, m.start()), m.group())
-    for m in re.finditer(r"\[[^\[\];=]*\* ?\d+ ?\+[^\[\];]*\]", text):
-        show(6, "computed index into a flat table", where(path, text, m.start()), m.group())
-    for m in re.finditer(r"(\w+): (&mut |&)?\[(u8|\[u8; \d+\]); \d+\]", text):
-        show(6, "fixed array as field or parameter", where(path, text, m.start()), m.group())
-    for m in re.finditer(r"\bcount: usize|\blen: usize", text):
-        show(6, "length beside a buffer", where(path, text, m.start()), m.group())
-    for m in re.finditer(r"\bfn\(|\bdyn \w+|\bimpl Fn", text):
-        show(7, "function pointer, dyn or impl Fn", where(path, text, m.start()), text[m.start() : m.start() + 40])
     for name, start, params, result, clauses, body in functions(text):
         at = where(path, text, start)
         if result and result.strip() == "bool":
