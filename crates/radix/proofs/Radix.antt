@@ -1,8 +1,8 @@
 -- Numbers of two and three digits to the base q.
 use mathlib.Core.Path.{◌≡◌, ap, ◌∙◌}
-use Prim.Native.Nat.{ℕ, ◌+◌, ◌*◌, ◌/◌, ◌%◌, ◌<◌}
+use Prim.Native.Nat.{ℕ, ◌+◌, ◌*◌, ◌/◌, ◌%◌, ◌<◌, ◌≤◌}
 use native.Mathlib.Omega.{arith}
-use native.Mathlib.Nat.{mul_comm, div-add-mod'}
+use native.Mathlib.Nat.{mul_comm, mul-le-mul_left, div-add-mod'}
 use Rattle.std.proofs.lemmas.Nat.{div_below}
 use lib.Arith.{digits_lt, digits_div, digits_mod}
 use Rattle.radix.specs.Digits.{first, second, third, number}
@@ -13,16 +13,22 @@ digits_rise i j m r t h hr =
     let a = digits_lt {q = i} {m = j} {r = r} {c = m} h hr in
     omega arith
 
+pub flip : (q h r : ℕ) → q * h + r ≡ h * q + r
+flip q h r = ap (λ x. x + r) (mul_comm q h)
+
+pub times_most : (a q : ℕ) → q ≤ 257 → a * q ≤ 257 * a
+times_most a q h = let k = mul-le-mul_left a h in let c = mul_comm a 257 in omega arith
+
 -- of two digits, written with the base first
 module _ (q : ℕ) where
   pub high_is : (h r : ℕ) → r < q → (q * h + r) / q ≡ h
-  high_is h r k = rw (mul_comm q h) (digits_div h k)
+  high_is h r k = rw (flip q h r) (digits_div h k)
 
   pub last_is : (h r : ℕ) → r < q → (q * h + r) % q ≡ r
-  last_is h r k = rw (mul_comm q h) (digits_mod h k)
+  last_is h r k = rw (flip q h r) (digits_mod h k)
 
   pub two_lt : (h r : ℕ) → h < q → r < q → q * h + r < q * q
-  two_lt h r k l = rw (mul_comm q h) (digits_lt k l)
+  two_lt h r k l = rw (flip q h r) (digits_lt k l)
 
 -- of three digits
 module _ (q : ℕ) where
