@@ -10,9 +10,11 @@ use Rattle.field.specs.Laws.{FieldLaws}
 use Rattle.field.proofs.Ring.{zero_code, sum_cancel}
 use Rattle.field.proofs.Differences.{plus_minus, minus_plus}
 use Rattle.field.proofs.Slopes.{slopes}
+use Rattle.geometry.specs.Model.{GeometryModel}
+use Rattle.geometry.specs.Incidence.{On}
 use Rattle.geometry.specs.Layouts.{Layout}
 use Rattle.geometry.proofs.Laid.{laid_lawful, laid_rising, by_rule}
-use Rattle.geometry.proofs.Only.{only}
+use Rattle.geometry.proofs.Only.{Follows, only, carried as carried_by}
 use Rattle.geometry.proofs.Sides.{Side, LayoutLaws}
 use Rattle.radix.proofs.Radix.{digits_rise, high_is, last_is, two_lt}
 use Rattle.euclidean.specs.Plane.{IsEuclidean, OnlyEuclidean}
@@ -57,6 +59,10 @@ module _ (φ : FieldModel) (laws : FieldLaws φ) where
     at_seat = λ l p hl hp inc. cc (div-add-mod' p q);
   }
 
+  -- two digits make a number
+  same_number : (m n : ℕ) → m / q ≡ n / q → m % q ≡ n % q → m ≡ n
+  same_number m n h r = cc (div-add-mod' m q, div-add-mod' n q)
+
   keeps : LayoutLaws plan Inc
   keeps = record {
     some_points = mul-pos pos pos;
@@ -68,12 +74,11 @@ module _ (φ : FieldModel) (laws : FieldLaws φ) where
     of_lines = by_lines;
     one_line = λ p p' l l' hp hp' hl hl' n a b c d.
         elim (ℕ_discrete (p / q) (p' / q)) [
-          | yes e ↦ absurd (n (cc (a, b, div-add-mod' p q, div-add-mod' p' q)))
+          | yes e ↦ absurd (n (same_number p p' e (cc (a, b))))
           | no m ↦
               let s : l / q ≡ l' / q = slopes φ laws (l / q) (l' / q) (p / q) (p' / q) (l % q) (l' % q)
               (div_below l q q pos hl) (div_below l' q q pos hl') (div_below p q q pos hp) (div_below p' q q pos hp') m (sym a ∙ c) (sym b ∙ d) in
-              let t : l % q ≡ l' % q = sum_cancel φ laws (prod (l / q) (p / q)) (l % q) (l' % q) (mod-lt l pos) (mod-lt l' pos) cc in
-              cc (div-add-mod' l q, div-add-mod' l' q)
+              same_number l l' s (sum_cancel φ laws (prod (l / q) (p / q)) (l % q) (l' % q) (mod-lt l pos) (mod-lt l' pos) cc)
         ];
   }
 
@@ -91,8 +96,9 @@ module _ (φ : FieldModel) (laws : FieldLaws φ) where
     lawful = laid_lawful plan Inc keeps;
   }
 
-  pub only_euclidean : OnlyEuclidean φ (euclidean φ)
-  only_euclidean h H = only plan Inc keeps h (record {
+  -- a Euclidean plane has the counts and the rule of the layout
+  follows : (h : GeometryModel) → IsEuclidean φ h → Follows plan Inc h
+  follows h H = record {
     lawful = H.lawful;
     rising = H.rising;
     order_is = H.order_is;
@@ -107,4 +113,11 @@ module _ (φ : FieldModel) (laws : FieldLaws φ) where
       div-add-mod l q,
       H.incidence (p / q) (p % q) (l / q) (l % q) (div_below p q q pos hp) (mod-lt p pos) (div_below l q q pos hl) (mod-lt l pos),
     );
-  })
+  }
+
+  -- what is incident in one plane is incident in any other
+  carried : (g h : GeometryModel) → IsEuclidean φ g → IsEuclidean φ h → (p l : ℕ) → On g p l → On h p l
+  carried g h G H = carried_by plan Inc g h (follows g G) (follows h H)
+
+  pub only_euclidean : OnlyEuclidean φ (euclidean φ)
+  only_euclidean h H = only plan Inc keeps h (follows h H)

@@ -3,8 +3,10 @@ use Rattle.std.specs.Prelude.{◌≡◌, ℕ, ◌+◌, ◌*◌, ◌<◌, refl}
 use Rattle.std.proofs.Common.{sym, ap, ap₂, ◌∙◌, subst, arith}
 use Rattle.field.specs.Model.{FieldModel}
 use Rattle.field.specs.Laws.{FieldLaws}
+use Rattle.geometry.specs.Model.{GeometryModel}
+use Rattle.geometry.specs.Incidence.{On}
 use Rattle.geometry.proofs.Laid.{laid_lawful, laid_rising, by_rule}
-use Rattle.geometry.proofs.Only.{only}
+use Rattle.geometry.proofs.Only.{Follows, only, carried as carried_by}
 use Rattle.geometry.proofs.Sides.{Side, LayoutLaws}
 use Rattle.projective.specs.declared.triple.Triple.{Triple}
 use Rattle.projective.specs.Triples.{Codes, x_of, y_of, z_of, number_of, dot}
@@ -101,8 +103,9 @@ module _ (φ : FieldModel) (laws : FieldLaws φ) where
     lawful = laid_lawful (projective_layout φ) Inc keeps;
   }
 
-  pub only_projective : OnlyProjective φ (projective φ)
-  only_projective h H = only (projective_layout φ) Inc keeps h (record {
+  -- a projective plane has the counts and the rule of the layout
+  follows : (h : GeometryModel) → IsProjective φ h → Follows (projective_layout φ) Inc h
+  follows h H = record {
     lawful = H.lawful;
     rising = H.rising;
     order_is = H.order_is;
@@ -117,4 +120,11 @@ module _ (φ : FieldModel) (laws : FieldLaws φ) where
       (number_triple q more l hl).0,
       H.incidence (T p) (T l) (codes p hp) (codes l hl),
     );
-  })
+  }
+
+  -- what is incident in one plane is incident in any other
+  carried : (g h : GeometryModel) → IsProjective φ g → IsProjective φ h → (p l : ℕ) → On g p l → On h p l
+  carried g h G H = carried_by (projective_layout φ) Inc g h (follows g G) (follows h H)
+
+  pub only_projective : OnlyProjective φ (projective φ)
+  only_projective h H = only (projective_layout φ) Inc keeps h (follows h H)

@@ -7,9 +7,11 @@ use Rattle.field.specs.Laws.{FieldLaws}
 use Rattle.field.proofs.Ring.{zero_code, sum_cancel, sum_left_comm}
 use Rattle.field.proofs.Differences.{plus_minus, minus_plus, minus_back, sum_cancel_right}
 use Rattle.field.proofs.Slopes.{slopes}
+use Rattle.geometry.specs.Model.{GeometryModel}
+use Rattle.geometry.specs.Incidence.{On}
 use Rattle.geometry.specs.Layouts.{Layout}
 use Rattle.geometry.proofs.Laid.{laid_lawful, laid_rising, by_rule}
-use Rattle.geometry.proofs.Only.{only}
+use Rattle.geometry.proofs.Only.{Follows, only, carried as carried_by}
 use Rattle.geometry.proofs.Sides.{Side, LayoutLaws}
 use Rattle.radix.specs.Digits.{first, second, third, number}
 use Rattle.radix.proofs.Radix.{first_is, second_is, third_is, number_is, number_lt, number_rise, first_lt, same_number, read}
@@ -50,6 +52,12 @@ module _ (φ : FieldModel) (laws : FieldLaws φ) where
   incs x y z a b c hy hz hb hc e h = (
     cc (second_is q x y z hy hz, second_is q a b c hb hc, first_is q a b c hb hc, first_is q x y z hy hz),
     cc (third_is q x y z hz, third_is q a b c hc, first_is q x y z hy hz, second_is q a b c hb hc),
+  )
+
+  pub inc_out : (x y z a b c : ℕ) → y < q → z < q → b < q → c < q → Inc φ (number q x y z) (number q a b c) → (sum y b ≡ prod a x) × (sum z c ≡ prod x b)
+  inc_out x y z a b c hy hz hb hc i = (
+    cc (i.0, second_is q x y z hy hz, second_is q a b c hb hc, first_is q a b c hb hc, first_is q x y z hy hz),
+    cc (i.1, third_is q x y z hz, third_is q a b c hc, first_is q x y z hy hz, second_is q a b c hb hc),
   )
 
   -- each line through a point is found by its slope, and each point of a line by its place
@@ -140,8 +148,9 @@ module _ (φ : FieldModel) (laws : FieldLaws φ) where
     lawful = laid_lawful plan (Inc φ) keeps;
   }
 
-  pub only_quadrangle : OnlyQuadrangle φ (quadrangle φ)
-  only_quadrangle h H = only plan (Inc φ) keeps h (record {
+  -- a quadrangle has the counts and the rule of the layout
+  follows : (h : GeometryModel) → IsQuadrangle φ h → Follows plan (Inc φ) h
+  follows h H = record {
     lawful = H.lawful;
     rising = H.rising;
     order_is = H.order_is;
@@ -156,4 +165,11 @@ module _ (φ : FieldModel) (laws : FieldLaws φ) where
       read q (X l) (Y l) (Z l) ∙ number_is q l,
       H.incidence (X p) (Y p) (Z p) (X l) (Y l) (Z l) (first_lt q p pos hp) (second_lt p) (third_lt p) (first_lt q l pos hl) (second_lt l) (third_lt l),
     );
-  })
+  }
+
+  -- what is incident in one quadrangle is incident in any other
+  carried : (g h : GeometryModel) → IsQuadrangle φ g → IsQuadrangle φ h → (p l : ℕ) → On g p l → On h p l
+  carried g h G H = carried_by plan (Inc φ) g h (follows g G) (follows h H)
+
+  pub only_quadrangle : OnlyQuadrangle φ (quadrangle φ)
+  only_quadrangle h H = only plan (Inc φ) keeps h (follows h H)
