@@ -2,13 +2,12 @@
 use Rattle.std.specs.Prelude.{◌≡◌, ℕ, zero, suc, ◌+◌, ◌*◌, ◌/◌, ◌%◌, ◌<◌, Bool, true, false, ◌&&◌, T, List, [], ◌∷◌, length, Some, ◌==◌, ◌≢◌, bit_xor, nat_lt, slice_index, refl}
 use Rattle.std.proofs.Common.{sym, ap, ap₂, ◌∙◌, subst, eqb→eq}
 use Rattle.std.proofs.lemmas.Nat.{div-mul-add, mod-mul-add, mul-add-lt}
-use Rattle.std.proofs.lemmas.Bool.{and_parts, eqb-true, ltb-true}
+use Rattle.std.proofs.lemmas.Bool.{and_parts, eqb-true, ltb-true, ne_eqb}
 use Rattle.field.specs.Model.{as_code, inverse}
 use Rattle.field.specs.Polynomials.{bit, scaled, poly_product, remainder}
-use Rattle.field.specs.Defined.{among, prime_orders, degree, modulus, defined_sum, defined_neg, defined_prod, defined_field}
+use Rattle.field.specs.Defined.{among, prime_orders, degree, modulus, defined_sum, defined_neg, defined_prod, defined_inv, defined_field}
 use Rattle.field.specs.Laws.{FieldLaws}
-use Rattle.field.proofs.Ring.{read_lt}
-use Rattle.field.proofs.Quotients.{inverse_by}
+use Rattle.field.proofs.Ring.{read_lt, inverse_only}
 use Rattle.field_theory.proofs.Scan.{is_true, every, at}
 use Rattle.field_theory.proofs.Lawful.{binary_field_lawful}
 use Rattle.field_theory.proofs.Binary.{sum_is, neg_is}
@@ -63,9 +62,17 @@ inverses Of4 = inverses4
 inverses Of8 = inverses8
 inverses Of16 = inverses16
 
--- the rule of a table of products, by rows
-abbrev product_fits : BinaryField → ℕ → ℕ → Bool
-product_fits f i x = x == defined_prod (order_of f) (i / order_of f) (i % order_of f)
+-- the rule of a table of products in the field of order q, by rows
+abbrev product_fits : ℕ → ℕ → ℕ → Bool
+product_fits q i x = x == defined_prod q (i / q) (i % q)
+
+module _ (q : ℕ) (laws : FieldLaws (defined_field q)) (table : List ℕ) (size : length table ≡ q * q) (test : T (every (product_fits q) table)) where
+  pub product_entry : (a b x y : ℕ) → x ≡ as_code q a → y ≡ as_code q b → x < q → y < q → slice_index table (x * q + y) ≡ defined_prod q a b
+  product_entry a b x y ex ey hx hy =
+      let i = x * q + y in
+      let h : i < length table = subst (λ n. i < n) (sym size) (mul-add-lt x q y q hx hy) in
+      eqb→eq (slice_index table i) (defined_prod q (i / q) (i % q)) (at (product_fits q) table test i h)
+      ∙ ap₂ (defined_prod q) (div-mul-add x q y hy ∙ ex) (mod-mul-add x q y hy ∙ ey) ∙ sym (laws.prod_reads a b)
 
 products_length : (f : BinaryField) → length (products f) ≡ order_of f * order_of f
 unfolding products4 products8 products16
@@ -73,22 +80,18 @@ products_length Of4 = refl
 products_length Of8 = refl
 products_length Of16 = refl
 
-products_right : (f : BinaryField) → T (every (product_fits f) (products f))
+products_right : (f : BinaryField) → T (every (product_fits (order_of f)) (products f))
 unfolding products4 products8 products16 defined_prod degree modulus remainder poly_product bit scaled
 products_right Of4 = tt
 products_right Of8 = tt
 products_right Of16 = tt
 
-product_at : (f : BinaryField) (a b x y : ℕ) → x ≡ as_code (order_of f) a → y ≡ as_code (order_of f) b
+pub product_at : (f : BinaryField) (a b x y : ℕ) → x ≡ as_code (order_of f) a → y ≡ as_code (order_of f) b
     → slice_index (products f) (x * order_of f + y) ≡ defined_prod (order_of f) a b
 product_at f a b x y ex ey =
     let q = order_of f in
-    let i = x * q + y in
-    let hx = read_lt (defined_field q) (lawful f) a x ex in
-    let hy = read_lt (defined_field q) (lawful f) b y ey in
-    let h : i < length (products f) = subst (λ n. i < n) (sym (products_length f)) (mul-add-lt x q y q hx hy) in
-    eqb→eq (slice_index (products f) i) (defined_prod q (i / q) (i % q)) (at (product_fits f) (products f) (products_right f) i h)
-    ∙ ap₂ (defined_prod q) (div-mul-add x q y hy ∙ ex) (mod-mul-add x q y hy ∙ ey) ∙ sym ((lawful f).prod_reads a b)
+    product_entry q (lawful f) (products f) (products_length f) (products_right f) a b x y ex ey
+    (read_lt (defined_field q) (lawful f) a x ex) (read_lt (defined_field q) (lawful f) b y ey)
 
 -- the rule of a table of inverses
 abbrev inverse_fits : ℕ → ℕ → ℕ → Bool
@@ -113,12 +116,21 @@ fits q (suc a) x n t =
     let parts = and_parts (nat_lt x q) (defined_prod q (suc a) x == 1) (is_true (inverse_fits q (suc a) x) t) in
     (ltb-true x q parts.0, eqb-true (defined_prod q (suc a) x) 1 parts.1)
 
-inverse_at : (f : BinaryField) (a x : ℕ) → x ≡ as_code (order_of f) a → x ≢ 0 → Some (slice_index (inverses f) x) ≡ inverse (defined_field (order_of f)) a
-inverse_at f a x ex n =
+module _ (q : ℕ) (laws : FieldLaws (defined_field q)) (table : List ℕ) (size : length table ≡ q) (test : T (every (inverse_fits q) table)) where
+  pub inverse_entry : (a x : ℕ) → x ≡ as_code q a → x < q → x ≢ 0 → slice_index table x ≡ defined_inv q a
+  inverse_entry a x ex h nz =
+      let y = fits q x (slice_index table x) nz (at (inverse_fits q) table test x (subst (λ n. x < n) (sym size) h)) in
+      inverse_only (defined_field q) laws x (slice_index table x) h y.0 y.1 ∙ ap (defined_inv q) ex ∙ sym (laws.inv_reads a)
+
+pub inverse_is : (f : BinaryField) (a x : ℕ) → x ≡ as_code (order_of f) a → x ≢ 0 → slice_index (inverses f) x ≡ defined_inv (order_of f) a
+inverse_is f a x ex n =
     let q = order_of f in
-    let h : x < length (inverses f) = subst (λ n. x < n) (sym (inverses_length f)) (read_lt (defined_field q) (lawful f) a x ex) in
-    let y = fits q x (slice_index (inverses f) x) n (at (inverse_fits q) (inverses f) (inverses_right f) x h) in
-    inverse_by (defined_field q) (lawful f) a x (slice_index (inverses f) x) ex n y.0 y.1
+    inverse_entry q (lawful f) (inverses f) (inverses_length f) (inverses_right f) a x ex (read_lt (defined_field q) (lawful f) a x ex) n
+
+pub inverse_at : (f : BinaryField) (a x : ℕ) → x ≡ as_code (order_of f) a → x ≢ 0 → Some (slice_index (inverses f) x) ≡ inverse (defined_field (order_of f)) a
+inverse_at f a x ex n =
+    let read : as_code (order_of f) a ≢ 0 = λ z. n (ex ∙ z) in
+    rw (ne_eqb (as_code (order_of f) a) 0 read) (ap Some (inverse_is f a x ex n))
 
 -- in the arm of the field k
 module _ (k f : BinaryField) (arm : f ≡ k) (q : ℕ) (order : q ≡ order_of f) where

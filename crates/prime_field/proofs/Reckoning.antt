@@ -1,15 +1,16 @@
 -- The sums, negatives, products and inverses that the code works out are the defined ones.
 use Rattle.std.proofs.Common.{◌≡◌, ℕ, ◌+◌, ◌-◌, ◌*◌, ◌%◌, ◌<◌, ◌≤◌, true, ◌≢◌, T, get_or, Some, mod-eq_of_lt, arith}
 use native.Mathlib.Nat.{mod-eq-sub-mod, mod_self, sub-zero}
+use Rattle.std.proofs.lemmas.Nat.{mul-le}
 use Rattle.field.specs.Model.{as_code, inverse}
 use Rattle.field.specs.Laws.{FieldLaws}
 use Rattle.field.specs.Defined.{among, prime_orders, defined_sum, defined_neg, defined_prod, defined_field}
-use Rattle.field.proofs.Ring.{read_lt}
+use Rattle.field.proofs.Ring.{zero_code, read_lt}
 use Rattle.field.proofs.Quotients.{inverse_by}
 use Rattle.field_theory.proofs.Scan.{is_true}
 use Rattle.field_theory.proofs.Lawful.{prime_lawful}
 use Rattle.field_theory.proofs.Modular.{sum_is, neg_is, prod_is}
-use Rattle.prime_field.proofs.Table.{inverses, inverse_entry}
+use Rattle.prime_field.proofs.Table.{inverses, prime_below, inverse_entry}
 
 module _ (q : ℕ) (prime : T (among q prime_orders)) where
   listed : among q prime_orders ≡ true
@@ -17,6 +18,9 @@ module _ (q : ℕ) (prime : T (among q prime_orders)) where
 
   laws : FieldLaws (defined_field q)
   laws = prime_lawful q prime
+
+  pub positive : 0 < q
+  positive = zero_code (defined_field q) laws
 
   code : (a x : ℕ) → x ≡ as_code q a → x < q
   code = read_lt (defined_field q) laws
@@ -42,6 +46,14 @@ module _ (q : ℕ) (prime : T (among q prime_orders)) where
 
   pub product : (a b x y : ℕ) → x ≡ as_code q a → y ≡ as_code q b → x * y % q ≡ defined_prod q a b
   product a b x y ex ey = cc (prod_is q listed a b)
+
+  -- a byte holds the product
+  pub product_fits : (a b x y : ℕ) → x ≡ as_code q a → y ≡ as_code q b → x * y < 256
+  product_fits a b x y ex ey =
+      let l = prime_below q prime in
+      let hx = code a x ex in
+      let hy = code b y ey in
+      omega (arith, mul-le x y 12 12 (omega arith) (omega arith))
 
   pub inverse_some : (a x : ℕ) → x ≡ as_code q a → x ≢ 0 → Some (get_or inverses (q * 14 + x) 0) ≡ inverse (defined_field q) a
   inverse_some a x ex nz =

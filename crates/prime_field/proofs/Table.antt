@@ -2,10 +2,11 @@
 use Rattle.std.proofs.Common.{◌≡◌, ℕ, ◌+◌, ◌*◌, ◌/◌, ◌%◌, ◌<◌, Bool, true, cond, ◌&&◌, T, eqb, ltb, List, [], ◌∷◌, get_or, ap₂, ◌∙◌, arith, lit<}
 use Rattle.std.proofs.lemmas.Nat.{div-mul-add, mod-mul-add}
 use Rattle.std.proofs.lemmas.Bool.{and_parts, eqb-true, lt-ltb, ltb-true}
-use Rattle.field.specs.Defined.{among, prime_orders, defined_prod}
+use Rattle.field.specs.Defined.{among, prime_orders, defined_prod, defined_inv, defined_field}
 use Rattle.field.proofs.Codes.{code_is}
+use Rattle.field.proofs.Ring.{inverse_only}
 use Rattle.field_theory.proofs.Scan.{is_true, at}
-use Rattle.field_theory.proofs.Lawful.{each_at}
+use Rattle.field_theory.proofs.Lawful.{each_at, prime_lawful}
 use Rattle.field_theory.proofs.Modular.{prod_is}
 
 -- the table as the code has it: row q, column a
@@ -35,3 +36,9 @@ inverse_entry q a t p h =
     let parts = and_parts (ltb x q) (eqb (a * x % q) 1) passes in
     let less = ltb-true x q parts.0 in
     (less, prod_is q listed a x ∙ ap₂ (λ m n. m * n % q) (code_is q a h) (code_is q x less) ∙ eqb-true (a * x % q) 1 parts.1)
+
+-- the entry is the inverse
+pub inverse_is : (q a : ℕ) → T (among q prime_orders) → 0 < a → a < q → get_or inverses (q * 14 + a) 0 ≡ defined_inv q a
+inverse_is q a t p h =
+    let y = inverse_entry q a t p h in
+    inverse_only (defined_field q) (prime_lawful q t) a (get_or inverses (q * 14 + a) 0) h y.0 y.1
