@@ -9,9 +9,9 @@ use Rattle.field.proofs.Ring.{zero_prod}
 use Rattle.field_theory.proofs.Bits.{bit_high}
 use Rattle.field_theory.proofs.Lawful.{binary_field_lawful}
 use Rattle.bch.specs.Bch.{cube, power_bit}
-use Rattle.bch.specs.Columns.{column}
+use Rattle.bch.specs.Columns.{column, NoSeat}
 use Rattle.bch.specs.Two.{bit_zero}
-use Rattle.bch.specs.Table.{cubes, cube_entry}
+use Rattle.bch.specs.Table.{cubes, cube_entry, column_seat}
 
 laws : FieldLaws (defined_field 16)
 laws = binary_field_lawful 16 tt
@@ -68,3 +68,9 @@ column_short t i d = let z = cond-false (eqb t 2) (32 * cube i) 0 (ne_eqb t 2 d)
 
 -- the cases of a column
 pub ruleset columns = (column_long, column_short)
+
+-- the seat that the locator bits of a sum name is the only one that can have it for its column
+pub no_seat : (t s n : ℕ) → n ≤ 16 → (s / 2 % 16 < n → column t (s / 2 % 16) ≢ s) → NoSeat t s n
+no_seat t s n h d a l e =
+    let m : s / 2 % 16 ≡ a = ap (λ x. x / 2 % 16) (sym e) ∙ column_seat t a (omega arith) in
+    d (omega arith) (ap (column t) m ∙ e)

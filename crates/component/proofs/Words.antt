@@ -1,5 +1,5 @@
 -- Words that the checks let pass.
-use Rattle.std.proofs.Common.{◌≡◌, ℕ, ◌<◌, Bool, true, false, eqb, leb, ltb, List, length, get_or, None, Ok, Err, Result, refl, arith}
+use Rattle.std.proofs.Common.{◌≡◌, ℕ, ◌<◌, Bool, true, false, eqb, leb, ltb, List, length, get_or, Some, None, Ok, Err, Option, Result, refl, ap, subst, arith}
 use Rattle.std.proofs.lemmas.Bool.{and_from, eq-eqb, eqb-true, leb-false, le-ltb, lt-leb, lt-ltb}
 use Rattle.std.proofs.lemmas.List.Sums.{fails_before_first, position_or_len_is}
 use Rattle.std.specs.Result.{result_and}
@@ -17,6 +17,10 @@ unless_true false r h = grind arith
 pub both_pass : {X : Type 0} (a : Result (Unit {0}) Refusal) (b : Result X Refusal) (x : X) → result_and a b ≡ Ok x → (a ≡ Ok tt) × (b ≡ Ok x)
 both_pass (Ok u) b x h = (refl, h)
 both_pass (Err r) b x h = grind arith
+
+pub stranger_none : (o : Option ℕ) → no_stranger o ≡ Ok tt → o ≡ None
+stranger_none None h = refl
+stranger_none (Some place) h = grind arith
 
 -- where no place holds what is no code, each symbol is a code, and the other way round
 none_codes : (q : ℕ) (xs : List ℕ) → no_stranger (first_no_code q xs) ≡ Ok tt → (i : ℕ) → i < length xs → get_or xs i 0 < q
@@ -40,10 +44,16 @@ pub stands_from : (q n : ℕ) (xs : List ℕ) → length xs ≡ n → ((i : ℕ)
 unfolding word_standing
 stands_from q n xs size codes = rw (eq-eqb (length xs) n size, codes_none q xs (λ i l. codes i (omega arith))) refl
 
+-- a word of the right length in which no place holds what is no code is a word over the field
+pub all_codes : (c : CodeModel) (q : ℕ) (xs : List ℕ) → q ≡ c.field.order → length xs ≡ c.size → first_no_code q xs ≡ None → over_field c xs ≡ true
+all_codes c q xs e l h =
+    and_from (eqb (length xs) c.size) (every c.size (λ i. ltb (get_or xs i 0) c.field.order)) (eq-eqb (length xs) c.size l)
+    (every_from c.size (λ i. ltb (get_or xs i 0) c.field.order) (λ i k.
+    lt-ltb (get_or xs i 0) c.field.order (subst (λ n. get_or xs i 0 < n) e (none_codes q xs (ap no_stranger h) i (omega arith)))))
+
 -- a word that a call of decoding admits is a word over the field
 pub over_from : (c : CodeModel) (xs : List ℕ) → admitted c xs ≡ Ok tt → over_field c xs ≡ true
 over_from c xs h =
     let q = c.field.order in
     let w = word_stands q c.size xs (both_pass (standing c) (word_standing q c.size xs) tt h).1 in
-    and_from (eqb (length xs) c.size) (every c.size (λ i. ltb (get_or xs i 0) q)) (eq-eqb (length xs) c.size w.0)
-    (every_from c.size (λ i. ltb (get_or xs i 0) q) (λ i l. lt-ltb (get_or xs i 0) q (w.1 i l)))
+    all_codes c q xs refl w.0 (codes_none q xs (λ i l. w.1 i (omega arith)))
