@@ -1,8 +1,9 @@
 -- One error more is taken from the word, and from its checks.
-use Rattle.std.proofs.Common.{◌≡◌, ℕ, zero, suc, ◌+◌, ◌/◌, ◌<◌, ◌≤◌, Bool, true, false, cond, ◌&&◌, eqb, List, [], ◌∷◌, ◌++◌, length, get_or, take, drop, set, Option, None, IfSome, sym, refl, ap, ◌∙◌, subst, ap₂, add-one, arith, drop-cons}
+use Rattle.std.proofs.Common.{◌≡◌, ℕ, zero, suc, ◌+◌, ◌/◌, ◌<◌, ◌≤◌, Bool, true, false, cond, ◌&&◌, eqb, List, [], ◌∷◌, ◌++◌, map, length, get_or, take, drop, set, Option, None, IfSome, sym, refl, ap, ◌∙◌, subst, ap₂, add-one, arith, length-take, drop-cons}
 use Rattle.std.proofs.Math.Path.{fun_ext}
+use native.Mathlib.Nat.{suc_inj}
 use native.Mathlib.Decide.{ℕ_discrete}
-use Rattle.std.proofs.lemmas.List.{get_or-set_same, get_or-set_other, get_or-take, get_or_append_left, drop_all}
+use Rattle.std.proofs.lemmas.List.{take_more, take_more_set, map_more, get_or-set_same, get_or-set_other, get_or-take, get_or_append_left, drop_all}
 use Rattle.std.proofs.Math.Seq.{take-append_seam}
 use Rattle.std.specs.Bool.{then_some}
 use Rattle.std.proofs.lemmas.Bool.{eq-eqb, ne_eqb}
@@ -26,11 +27,29 @@ below_at n [] k b h = absurd (omega arith)
 below_at n (e ∷ es) zero b h = b.0
 below_at n (e ∷ es) (suc k) b h = below_at n es k b.1 (omega arith)
 
+-- one error more is found
+pub values_turn : (f : ℕ → ℕ) (vs ks : List ℕ) (k y : ℕ) → k < length vs → k < length ks → take k vs ≡ map f (take k ks) → y ≡ f (get_or ks k 0) → take (k + 1) (set vs k y) ≡ map f (take (k + 1) ks)
+values_turn f vs ks k y hv hk e q = take_more_set vs k y hv ∙ ap₂ (λ a b. a ++ (b ∷ [])) e q ∙ sym (map_more f ks k 0 hk)
+
 -- the errors from the k-th on
 split_at : (es : List SymbolError) (k : ℕ) → k < length es → drop k es ≡ get_or es k blank ∷ drop (k + 1) es
 split_at es k h = drop-cons es k blank h ∙ ap (λ i. get_or es k blank ∷ drop i es) (sym (add-one k))
 
 module _ (φ : FieldModel) where
+  -- one error more is taken from the checks
+  pub remaining_push : (ks vs : List ℕ) (m v : ℕ) (s : ℕ → ℕ) (j : ℕ) → length ks ≡ length vs → remaining φ (ks ++ (m ∷ [])) (vs ++ (v ∷ [])) s j ≡ added φ m (φ.neg v) (remaining φ ks vs s) j
+  unfolding remaining
+  remaining_push [] [] m v s j e = refl
+  remaining_push [] (u ∷ vs) m v s j e = absurd (omega arith)
+  remaining_push (k ∷ ks) [] m v s j e = absurd (omega arith)
+  remaining_push (k ∷ ks) (u ∷ vs) m v s j e = remaining_push ks vs m v (added φ k (φ.neg u) s) j (suc_inj e)
+
+  pub remaining_more : (seats values : List ℕ) (k : ℕ) (s : ℕ → ℕ) (j : ℕ) → length seats ≡ 4 → length values ≡ 4 → k < 4
+      → added φ (get_or seats k 0) (φ.neg (get_or values k 0)) (remaining φ (take k seats) (take k values) s) j ≡ remaining φ (take (k + 1) seats) (take (k + 1) values) s j
+  remaining_more seats values k s j es ev h =
+      sym (ap₂ (λ ks vs. remaining φ ks vs s j) (take_more seats k 0 (omega arith)) (take_more values k 0 (omega arith))
+      ∙ remaining_push (take k seats) (take k values) (get_or seats k 0) (get_or values k 0) s j (omega (arith, length-take k seats, length-take k values)))
+
   remaining_same : (ks vs : List ℕ) (s u : ℕ → ℕ) (j : ℕ) → s j ≡ u j → remaining φ ks vs s j ≡ remaining φ ks vs u j
   unfolding remaining added
   remaining_same [] vs s u j e = e
@@ -51,11 +70,15 @@ module _ (φ : FieldModel) where
   unfolding remaining
   remaining_end es k s j h = sym (ap (λ xs. remaining φ (seats_of xs) (values_of xs) s j) (drop_all k es h))
 
+  taken_same : (m v i : ℕ) (w u : ℕ → ℕ) → w i ≡ u i → taken φ m v w i ≡ taken φ m v u i
+  unfolding taken
+  taken_same m v i w u e = ap (λ x. cond (eqb i m) (φ.sum x (φ.neg v)) x) e
+
   corrected_same : (ks vs : List ℕ) (w u : ℕ → ℕ) (i : ℕ) → w i ≡ u i → corrected φ ks vs w i ≡ corrected φ ks vs u i
-  unfolding corrected taken
+  unfolding corrected
   corrected_same [] vs w u i e = e
   corrected_same (k ∷ ks) [] w u i e = e
-  corrected_same (k ∷ ks) (v ∷ vs) w u i e = corrected_same ks vs (taken φ k v w) (taken φ k v u) i (ap (λ x. cond (eqb i k) (φ.sum x (φ.neg v)) x) e)
+  corrected_same (k ∷ ks) (v ∷ vs) w u i e = corrected_same ks vs (taken φ k v w) (taken φ k v u) i (taken_same k v i w u e)
 
   taken_write : (xs : List ℕ) (m v y i : ℕ) → m < length xs → y ≡ φ.sum (get_or xs m 0) (φ.neg v) → get_or (set xs m y) i 0 ≡ taken φ m v (at xs) i
   unfolding taken
@@ -65,6 +88,28 @@ module _ (φ : FieldModel) where
       go (yes p) = ap (λ k. get_or (set xs m y) k 0) p ∙ get_or-set_same xs m y 0 h ∙ e ∙ ap (λ k. φ.sum (get_or xs k 0) (φ.neg v)) (sym p)
           ∙ sym (ap (λ b. cond b (φ.sum (get_or xs i 0) (φ.neg v)) (get_or xs i 0)) (eq-eqb i m p))
       go (no d) = get_or-set_other xs m i y 0 d ∙ sym (ap (λ b. cond b (φ.sum (get_or xs i 0) (φ.neg v)) (get_or xs i 0)) (ne_eqb i m d))
+
+  -- one error more is taken from the word
+  pub corrected_push : (ks vs : List ℕ) (m v : ℕ) (w : ℕ → ℕ) (i : ℕ) → length ks ≡ length vs → corrected φ (ks ++ (m ∷ [])) (vs ++ (v ∷ [])) w i ≡ taken φ m v (corrected φ ks vs w) i
+  unfolding corrected
+  corrected_push [] [] m v w i e = refl
+  corrected_push [] (u ∷ vs) m v w i e = absurd (omega arith)
+  corrected_push (k ∷ ks) [] m v w i e = absurd (omega arith)
+  corrected_push (k ∷ ks) (u ∷ vs) m v w i e = corrected_push ks vs m v (taken φ k u w) i (suc_inj e)
+
+  corrected_more : (seats values : List ℕ) (k : ℕ) (w : ℕ → ℕ) (i : ℕ) → length seats ≡ 4 → length values ≡ 4 → k < 4
+      → taken φ (get_or seats k 0) (get_or values k 0) (corrected φ (take k seats) (take k values) w) i ≡ corrected φ (take (k + 1) seats) (take (k + 1) values) w i
+  corrected_more seats values k w i es ev h =
+      sym (ap₂ (λ ks vs. corrected φ ks vs w i) (take_more seats k 0 (omega arith)) (take_more values k 0 (omega arith))
+      ∙ corrected_push (take k seats) (take k values) (get_or seats k 0) (get_or values k 0) w i (omega (arith, length-take k seats, length-take k values)))
+
+  pub correct_turn : (seats values xs : List ℕ) (w : ℕ → ℕ) (k y : ℕ) → length seats ≡ 4 → length values ≡ 4 → k < 4 → get_or seats k 0 < length xs
+      → ((i : ℕ) → at xs i ≡ corrected φ (take k seats) (take k values) w i) → y ≡ φ.sum (get_or xs (get_or seats k 0) 0) (φ.neg (get_or values k 0))
+      → (i : ℕ) → at (set xs (get_or seats k 0) y) i ≡ corrected φ (take (k + 1) seats) (take (k + 1) values) w i
+  correct_turn seats values xs w k y es ev h inside inv e i =
+      taken_write xs (get_or seats k 0) (get_or values k 0) y i inside e
+      ∙ taken_same (get_or seats k 0) (get_or values k 0) i (at xs) (corrected φ (take k seats) (take k values) w) (inv i)
+      ∙ corrected_more seats values k w i es ev h
 
   pub corrected_turn : (es : List SymbolError) (k : ℕ) (xs : List ℕ) (y i : ℕ) → k < length es
       → (get_or es k blank).seat < length xs

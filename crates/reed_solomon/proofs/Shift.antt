@@ -1,10 +1,11 @@
 -- The rows after the pivot goes.
-use Rattle.std.proofs.Common.{◌≡◌, ℕ, ◌+◌, ◌-◌, ◌<◌, ◌≤◌, ◌≢◌, Bool, true, false, cond, not, eqb, List, [], ◌++◌, map, length, get_or, take, drop, Option, Some, None, inl, inr, sym, refl, subst, ap, ◌∙◌, append-nil, arith, length-append, length-take, length-drop}
+use Rattle.std.proofs.Common.{◌≡◌, ℕ, ◌+◌, ◌-◌, ◌<◌, ◌≤◌, ◌≢◌, Bool, true, false, cond, not, eqb, List, [], ◌++◌, map, length, get_or, set, take, drop, Option, Some, None, inl, inr, sym, refl, subst, ap, ◌∙◌, append-nil, arith, length-set, length-append, length-take, length-drop}
+use native.Mathlib.Decide.{ℕ_discrete}
 use mathlib.Core.Bool.{true≢false}
 use Rattle.std.specs.List.{refill, remove, position, position_or_len}
 use Rattle.std.proofs.lemmas.Bool.{lt-ltb, cases_lt, eqb-true, eq-eqb}
 use Rattle.std.proofs.lemmas.List.Sums.{fails_before_first}
-use Rattle.std.proofs.lemmas.List.{take_all, drop_all, get_or_append_left, get_or-append_right, get_or-take, get_or-drop, get_or-map, length-map, get_or_default}
+use Rattle.std.proofs.lemmas.List.{take_all, drop_all, get_or_append_left, get_or-append_right, get_or-take, get_or-drop, get_or-map, length-map, get_or_default, get_or-set_same, get_or-set_other}
 use Rattle.std.proofs.lemmas.List.Edits.{get_or-remove_below, get_or-remove_above}
 use Rattle.std.proofs.lemmas.List.Quantifiers.{position-Some}
 use Rattle.field.specs.Model.{FieldModel}
@@ -20,6 +21,34 @@ pub record Shifted (xs : List (List ℕ)) (p : ℕ) (f : List ℕ → List ℕ) 
   pub long : length rows + 1 ≡ length xs
   pub before : (l : ℕ) → l < p → get_or rows l [] ≡ get_or xs l []
   pub after : (l : ℕ) → p ≤ l → l + 1 < length xs → get_or rows l [] ≡ f (get_or xs (l + 1) [])
+
+-- of the rows start, those from p + 1 to l have moved up, changed by f
+abbrev pub ShiftedTo : List (List ℕ) → ℕ → (List ℕ → List ℕ) → ℕ → List (List ℕ) → Type 0
+ShiftedTo start p f l rows =
+    (length rows ≡ 5)
+    × ((m : ℕ) → m < p → get_or rows m [] ≡ get_or start m [])
+    × ((m : ℕ) → p ≤ m → m + 1 < l → get_or rows m [] ≡ f (get_or start (m + 1) []))
+    × ((m : ℕ) → l ≤ m → get_or rows m [] ≡ get_or start m [])
+
+pub shifted_more : (start : List (List ℕ)) (p : ℕ) (f : List ℕ → List ℕ) (l : ℕ) (rows : List (List ℕ)) (y : List ℕ) → p + 1 ≤ l → l < 5 → ShiftedTo start p f l rows
+    → y ≡ f (get_or rows l []) → ShiftedTo start p f (l + 1) (set rows (l - 1) y)
+shifted_more start p f l rows y hp hl inv e =
+    let five = inv.0 in (
+      length-set rows (l - 1) y ∙ inv.0,
+      (λ m h. other m (omega arith) ∙ inv.1 m h),
+      (λ m h k. go m h k (ℕ_discrete m (l - 1))),
+      (λ m h. other m (omega arith) ∙ inv.3 m (omega arith)),
+    )
+  where
+    other : (m : ℕ) → m ≢ l - 1 → get_or (set rows (l - 1) y) m [] ≡ get_or rows m []
+    other m d = get_or-set_other rows (l - 1) m y [] d
+
+    go : (m : ℕ) → p ≤ m → m + 1 < l + 1 → Dec (m ≡ l - 1) → get_or (set rows (l - 1) y) m [] ≡ f (get_or start (m + 1) [])
+    go m h k (yes q) =
+        let five = inv.0 in
+        let n : m + 1 ≡ l = omega arith in
+        ap (λ i. get_or (set rows (l - 1) y) i []) q ∙ get_or-set_same rows (l - 1) y [] (omega arith) ∙ e ∙ ap f (inv.3 l (omega arith) ∙ ap (λ i. get_or start i []) (sym n))
+    go m h k (no d) = other m d ∙ inv.2 m h (omega arith)
 
 -- a write of the whole list
 filled : (ys rs : List (List ℕ)) → length rs ≡ length ys → refill (length ys) ys rs ≡ rs

@@ -1,10 +1,11 @@
 -- One turn of each loop.
-use Rattle.std.proofs.Common.{◌≡◌, ℕ, zero, suc, ◌+◌, ◌-◌, ◌<◌, ◌≤◌, ◌≢◌, List, [], ◌∷◌, length, get_or, take, sym, refl, inl, inr, ap, ◌∙◌, subst, ap₂, subst₂, add-one, arith, length-take-le}
+use Rattle.std.proofs.Common.{◌≡◌, ℕ, zero, suc, ◌+◌, ◌-◌, ◌<◌, ◌≤◌, ◌≢◌, List, [], ◌∷◌, length, get_or, take, drop, sym, refl, inl, inr, ap, ◌∙◌, subst, ap₂, subst₂, add-one, arith, length-take-le, drop-cons}
 use Rattle.std.proofs.lemmas.List.{get_or-take, get_or_past}
 use Rattle.std.proofs.lemmas.Bool.{cases_lt}
 use Rattle.field.specs.Model.{FieldModel}
 use Rattle.field.specs.Laws.{FieldLaws}
-use Rattle.reed_solomon_theory.specs.Decode.{against, shed, Locator}
+use Rattle.reed_solomon_theory.specs.Code.{power}
+use Rattle.reed_solomon_theory.specs.Decode.{value, against, shed, Locator}
 use Rattle.reed_solomon_theory.specs.Elimination.{cleared, unit, zeros}
 use Rattle.reed_solomon_theory.specs.Elimination.{Basis}
 use Rattle.reed_solomon_theory.proofs.Basis.{basis_none, basis_pivot, basis_start, basis_locator}
@@ -14,6 +15,19 @@ abbrev pub units : List (List ℕ)
 units = (1 ∷ 0 ∷ 0 ∷ 0 ∷ 0 ∷ []) ∷ (0 ∷ 1 ∷ 0 ∷ 0 ∷ 0 ∷ []) ∷ (0 ∷ 0 ∷ 1 ∷ 0 ∷ 0 ∷ []) ∷ (0 ∷ 0 ∷ 0 ∷ 1 ∷ 0 ∷ []) ∷ (0 ∷ 0 ∷ 0 ∷ 0 ∷ 1 ∷ []) ∷ []
 
 module _ (φ : FieldModel) (laws : FieldLaws φ) where
+  pub pow_more : (x k : ℕ) → φ.prod x (power φ x k) ≡ power φ x (k + 1)
+  unfolding power
+  pow_more x k = ap (power φ x) (sym (add-one k))
+
+  pub value_more : (cs : List ℕ) (z k : ℕ) → k < length cs → φ.sum (get_or cs k 0) (φ.prod z (value φ (drop (k + 1) cs) z)) ≡ value φ (drop k cs) z
+  unfolding value
+  value_more cs z k h = ap (λ n. φ.sum (get_or cs k 0) (φ.prod z (value φ (drop n cs) z))) (add-one k) ∙ sym (ap (λ l. value φ l z) (drop-cons cs k 0 h))
+
+  pub against_more : (cs : List ℕ) (s : ℕ → ℕ) (j k : ℕ) → k < length cs → φ.sum (φ.prod (get_or cs k 0) (s (j + k))) (against φ (drop (k + 1) cs) s (j + (k + 1))) ≡ against φ (drop k cs) s (j + k)
+  unfolding against
+  against_more cs s j k h =
+      ap₂ (λ n i. φ.sum (φ.prod (get_or cs k 0) (s (j + k))) (against φ (drop n cs) s i)) (add-one k) (omega arith) ∙ sym (ap (λ l. against φ l s (j + k)) (drop-cons cs k 0 h))
+
   pub none_j : (s : ℕ → ℕ) (w top j count : ℕ) (row : ℕ → List ℕ) → Basis φ s w top j count row → ((l : ℕ) → l < count → against φ (row l) s j ≡ 0) → Basis φ s w top (j + 1) count row
   none_j s w top j count row b z = subst (λ i. Basis φ s w top i count row) (sym (add-one j)) (basis_none φ laws s w top j count row b z)
 

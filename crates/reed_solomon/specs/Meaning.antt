@@ -144,6 +144,10 @@ module _ (φ : FieldModel) (laws : FieldLaws φ) where
         go true e = power_lawful (limits φ.order n r e)
         go false e = none_lawful
 
+-- a word that decoding left has the symbols that it had
+left_same : (φ : FieldModel) (n r t : ℕ) (xs ys : List ℕ) → length xs ≡ n → length ys ≡ n → Decoded φ n r t (at xs) (at ys) false → ys ≡ xs
+left_same φ n r t xs ys e f d = ext_get_or 0 ys xs (f ∙ sym e) (λ i l. d.kept refl i (omega arith))
+
 -- the same of a value of any numbers
 module _ (φ : FieldModel) (laws : FieldLaws φ) (n r : ℕ) (xs : List ℕ) (over : over_field (reed_solomon φ n r) xs ≡ true) where
   pub settled_none : (reed_solomon φ n r).fit ≡ false → decoded (reed_solomon φ n r) xs ≡ Some xs
@@ -173,3 +177,6 @@ module _ (φ : FieldModel) (laws : FieldLaws φ) (n r : ℕ) (xs : List ℕ) (ov
 
     pub settled_not : (ys : List ℕ) → Decoded φ (length xs) r (r / 2) (at xs) (at ys) false → decoded (reed_solomon φ n r) xs ≡ None
     settled_not ys d = ap (λ c. decoded c xs) same ∙ power_refused φ laws n r xs ys (subst (λ k. Decoded φ k r (r / 2) (at xs) (at ys) false) full d)
+
+    pub settled_left : (ys : List ℕ) → length ys ≡ length xs → Decoded φ (length xs) r (r / 2) (at xs) (at ys) false → ys ≡ xs
+    settled_left ys e d = left_same φ (length xs) r (r / 2) xs ys refl e d
