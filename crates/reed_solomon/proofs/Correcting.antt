@@ -27,6 +27,13 @@ below_at n [] k b h = absurd (omega arith)
 below_at n (e ∷ es) zero b h = b.0
 below_at n (e ∷ es) (suc k) b h = below_at n es k b.1 (omega arith)
 
+-- the same of the seats alone
+pub below_seat : (n : ℕ) (ks : List ℕ) (k : ℕ) → Below n ks → k < length ks → get_or ks k 0 < n
+unfolding Below
+below_seat n [] k b h = absurd (omega arith)
+below_seat n (m ∷ ks) zero b h = b.0
+below_seat n (m ∷ ks) (suc k) b h = below_seat n ks k b.1 (omega arith)
+
 -- one error more is found
 pub values_turn : (f : ℕ → ℕ) (vs ks : List ℕ) (k y : ℕ) → k < length vs → k < length ks → take k vs ≡ map f (take k ks) → y ≡ f (get_or ks k 0) → take (k + 1) (set vs k y) ≡ map f (take (k + 1) ks)
 values_turn f vs ks k y hv hk e q = take_more_set vs k y hv ∙ ap₂ (λ a b. a ++ (b ∷ [])) e q ∙ sym (map_more f ks k 0 hk)
