@@ -15,9 +15,12 @@ fn line_at<G: Geometry>(geometry: &G, point: usize, seat: usize) -> Option<usize
     Some(edge / geometry.line_degree())
 }
 
-// Whether the point lies on the line: whether one of its edges does.
+// Whether the point lies on the line: whether one of its edges does. A point beyond the last has none, and no seat of it is asked for.
 pub fn lies_on<G: Geometry>(geometry: &G, point: usize, line: usize) -> bool
     ensures { IsTrue result ↔ On (G.Geometry.model geometry.now) point line }
 {
+    if point >= geometry.points() {
+        return false;
+    }
     (0..geometry.point_degree()).any(|seat| line_at(geometry, point, seat) == Some(line))
 }
