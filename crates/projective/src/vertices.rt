@@ -11,6 +11,7 @@ use radix::{Base, times};
 
 impl<F: Field> ProjectivePlane<F> {
     // The triple of a vertex.
+    #[inline(always)]
     pub(crate) fn triple_of(&self, vertex: usize) -> Triple
         ensures { result ≡ triple_of (F.Field.model self.now.field).order vertex }
     {
@@ -27,6 +28,7 @@ impl<F: Field> ProjectivePlane<F> {
     }
 
     // The number of a triple.
+    #[inline(always)]
     pub(crate) fn number_of(&self, triple: Triple) -> usize
         ensures value { result ≡ number_of (F.Field.model self.now.field).order triple }
         ensures most { result < 2 ^ 17 }
@@ -41,6 +43,7 @@ impl<F: Field> ProjectivePlane<F> {
 
     // What stands at a seat of the vertex (a, b, c): if c is not 0, (1, i, -(a + b i) / c) at seat i and (0, 1, -b / c) at seat q;
     // else if b is not 0, (1, -a / b, i) and (0, 0, 1); else (0, 1, i) and (0, 0, 1).
+    #[inline(always)]
     pub(crate) fn opposite(&self, vertex: Triple, seat: usize) -> Triple
         ensures { result ≡ opposite_of (F.Field.model self.now.field) (x_of vertex) (y_of vertex) (z_of vertex) seat }
     {
@@ -60,6 +63,7 @@ impl<F: Field> ProjectivePlane<F> {
     }
 
     // The seat, at a vertex, of another that is incident with it. The third coordinate of the vertex alone tells.
+    #[inline(always)]
     pub(crate) fn seat_of(&self, vertex: Triple, other: Triple) -> usize
         ensures value { result ≡ seat_of (F.Field.model self.now.field).order (z_of vertex) other }
         ensures most { result ≤ 256 }

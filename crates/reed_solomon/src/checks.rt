@@ -14,6 +14,7 @@ pub(crate) fn raise<F: Field>(field: &F, code: u8, exponent: usize) -> u8
 }
 
 // Adds a symbol at a seat to the checks of a word.
+#[inline]
 pub(crate) fn add_symbol<F: Field>(field: &F, locator: u8, symbol: u8, sums: &mut [u8])
     requires { symbol < (F.Field.model field.now).order }
     ensures { (j : ℕ) → j < length sums.old → at sums.new j ≡ added (F.Field.model field.now) locator symbol (at sums.old) j }
@@ -29,6 +30,7 @@ pub(crate) fn add_symbol<F: Field>(field: &F, locator: u8, symbol: u8, sums: &mu
 }
 
 // Adds the symbols of a word to checks that are 0.
+#[inline]
 pub(crate) fn add_word<F: Field>(field: &F, word: &[u8], sums: &mut [u8])
     requires seats { length word.now ≤ (F.Field.model field.now).order }
     requires codes { (i : ℕ) → i < length word.now → at word.now i < (F.Field.model field.now).order }

@@ -17,6 +17,7 @@ pub(crate) fn inverse_or_zero<F: Field>(field: &F, a: u8) -> u8
 }
 
 // A row against checks in order: the sum of each coefficient times the check in its place.
+#[inline]
 fn against<F: Field>(field: &F, row: &[u8; 5], sums: &[u8; 5]) -> u8
     ensures { result ≡ against (F.Field.model field.now) row.now (at sums.now) 0 }
 {
