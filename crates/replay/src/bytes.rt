@@ -3,7 +3,6 @@ ghost use Rattle.std.specs.Prelude.{◌≡◌, ◌<◌, EachIndex, IfOk, IsTrue,
 ghost use Rattle.replay.specs.Bytes.{NoCapital, written};
 
 use crate::line_error::LineError;
-use script::Failure;
 use std::alloc::Global;
 use std::fmt;
 
@@ -15,7 +14,7 @@ pub fn read(heap: Global, text: &str) -> Result<Vec<u8>, LineError>
         return Ok(Vec::new(heap));
     }
     if text.is_empty() || !is_digits(text) {
-        return Err(Failure::Unreadable.into());
+        return Err(LineError::Unreadable);
     }
     let mut bytes = vec![in heap; 0; text.len() / 2]?;
     read_digits(text, &mut bytes)?;
@@ -23,12 +22,12 @@ pub fn read(heap: Global, text: &str) -> Result<Vec<u8>, LineError>
 }
 
 // Reads one byte or more, two digits for each.
-fn read_digits(text: &str, bytes: &mut [u8]) -> Result<(), Failure>
+fn read_digits(text: &str, bytes: &mut [u8]) -> Result<(), LineError>
     requires some { 0 < length text.now }
     requires digits { EachIndex text.now (λ k. NoCapital (slice_index text.now k)) }
     ensures { OnOk result (text.now ≡ written bytes.new) }
 {
-    hex::decode_to_slice(text, bytes).map_err(|_| Failure::Unreadable)
+    hex::decode_to_slice(text, bytes).map_err(|_| LineError::Unreadable)
 }
 
 // Whether each character is a digit of the format.

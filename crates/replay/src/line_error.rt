@@ -1,13 +1,16 @@
 // Why a line gets no answer of its call.
-use script::Failure;
+use refusal::Refusal;
 use std::alloc::AllocError;
 use thiserror::Error;
 
 #[derive(Debug, Drop, Error)]
 pub enum LineError {
-    // this is printed in place of the answer
+    // the line is no call that can be read
+    #[error("the line cannot be read")]
+    Unreadable,
+    // the call is refused
     #[error(transparent)]
-    Failure(#[from] Failure),
+    Refused(#[from] Refusal),
     // there is no memory for a byte string, and the run ends
     #[error(transparent)]
     Memory(#[from(alloc)] AllocError),

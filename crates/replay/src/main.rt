@@ -7,8 +7,9 @@ mod line_error;
 mod reading;
 mod words;
 
-use answering::answer_to;
+use answering::{answer_to, unreadable};
 use line_error::LineError;
+use script::Failure;
 use std::io;
 
 // Whether a line is passed over: a comment, an empty line or an expected answer.
@@ -24,7 +25,11 @@ fn main(rt: HostRuntime) -> io::Result<()> {
         }
         match answer_to(rt.alloc(), &line) {
             Ok(answer) => println!(rt; "{line}\n< {answer}")?,
-            Err(LineError::Failure(failure)) => println!(rt; "{line}\n< {failure}")?,
+            Err(LineError::Unreadable) => println!(rt; "{line}\n< {}", unreadable())?,
+            Err(LineError::Refused(refusal)) => println!(rt;
+                "{line}\n< {}",
+                Failure::Refused(refusal)
+            )?,
             Err(LineError::Memory(error)) => return Err(error.into()),
         }
     }

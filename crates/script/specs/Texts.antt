@@ -1,5 +1,5 @@
 -- How answers are written.
-use Rattle.std.specs.Prelude.{ℕ, List, [], ◌++◌, codes, decimal}
+use Rattle.std.specs.Prelude.{ℕ, List, [], ◌++◌, Some, None, Ok, Err, Option, Result, codes, decimal}
 use Rattle.refusal.specs.declared.Refusal.{Refusal}
 use Rattle.refusal.specs.declared.Refusal.TheVariants.{NoSuchBlock, NoSuchCell, NotACode}
 use Rattle.refusal.specs.Numbers.{number}
@@ -29,3 +29,9 @@ carried_text _ = []
 abbrev pub failure_text : Failure → List ℕ
 failure_text Unreadable = codes "unreadable"
 failure_text (Refused refusal) = codes "no " ++ decimal (number refusal) ++ carried_text refusal
+
+-- an answer: what was found, which may be nothing, or why there is none
+abbrev pub answer_text : Result (Option Value) Failure → List ℕ
+answer_text (Ok (Some value)) = value_text value
+answer_text (Ok None) = codes "absent"
+answer_text (Err failure) = failure_text failure

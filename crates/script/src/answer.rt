@@ -45,8 +45,18 @@ impl From<Refusal> for Failure {
     }
 }
 
-// The answer to a line that was read as a call, or could not be; absent where the call finds nothing.
-pub fn to(line: Option<Call>) -> Result<Option<Value>, Failure>
+// What a line is answered; absent where its call finds nothing.
+#[derive(Clone, Copy, PartialEq, Eq, Debug)]
+pub struct Answer(pub Result<Option<Value>, Failure>);
+
+// The answer to a line that was read as a call, or could not be.
+pub fn to(line: Option<Call>) -> Answer
+    ensures { Answers line result.0 }
+{
+    Answer(found(line))
+}
+
+fn found(line: Option<Call>) -> Result<Option<Value>, Failure>
     ensures { Answers line result }
 {
     let call = line.ok_or(Failure::Unreadable)?;

@@ -8,6 +8,6 @@ mod field_calls;
 mod geometry_calls;
 mod texts;
 
-pub use answer::{Failure, Sizes, Value, to};
+pub use answer::{Answer, Failure, Sizes, Value, to};
 pub use call::{Call, Operation, Question};
 pub use code_calls::decode;

@@ -1,10 +1,22 @@
 // How answers are written.
 ghost use Rattle.std.specs.Prelude.{Some};
-ghost use Rattle.script.specs.Texts.{carried_text, failure_text, sizes_text, value_text};
+ghost use Rattle.script.specs.Texts.{answer_text, carried_text, failure_text, sizes_text, value_text};
 
-use crate::answer::{Failure, Sizes, Value};
+use crate::answer::{Answer, Failure, Sizes, Value};
 use refusal::Refusal;
 use std::fmt;
+
+impl fmt::Display for Answer {
+    ghost output = { λ a. Some (answer_text a.0) };
+
+    fn fmt<W: fmt::Write>(&self, f: &mut fmt::Formatter<W>) -> fmt::Result {
+        match &self.0 {
+            Ok(Some(value)) => write!(f, "{value}"),
+            Ok(None) => f.write_str("absent"),
+            Err(failure) => write!(f, "{failure}"),
+        }
+    }
+}
 
 impl fmt::Display for Value {
     ghost output = { λ v. Some (value_text v) };
