@@ -12,10 +12,10 @@ use script::decode;
 use std::alloc::Global;
 use std::fmt;
 
-// The answer to a call that is accepted.
+// What is answered to a line that could be read.
 #[derive(Drop)]
 pub enum Answer {
-    // the answer of a field or a geometry
+    // the answer of a field or a geometry, a refusal too
     Found(script::Answer),
     // the code word within the radius, if there is one
     Decoded(Option<Vec<u8>>),
@@ -23,7 +23,7 @@ pub enum Answer {
     Checks(AnyCode),
 }
 
-// The answer to a line.
+// The answer to a line. A refusal of a decode or checks call is an error.
 pub fn answer_to(heap: Global, line: &str) -> Result<Answer, LineError> {
     let mut words = Words::of(line.strip_prefix("> ").ok_or(LineError::Unreadable)?);
     match words.word().ok_or(LineError::Unreadable)? {

@@ -56,6 +56,7 @@ pub fn to(line: Option<Call>) -> Answer
     Answer(found(line))
 }
 
+// What is found for a line, or why nothing is.
 fn found(line: Option<Call>) -> Result<Option<Value>, Failure>
     ensures { Answers line result }
 {
